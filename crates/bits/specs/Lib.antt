@@ -1,0 +1,5 @@
+pub mod Fields
+pub mod Layout
+pub mod Laws
+pub mod Parity
+pub mod Complement

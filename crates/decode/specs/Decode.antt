@@ -1,0 +1,73 @@
+-- A word's record, or its refusal: the tests in document 01's order, 1, 2, 3, 5, 4, 6, 7.
+-- Assumes nothing.
+use mathlib.Core.Path.{_≡_}
+use mathlib.Core.Bool.{Bool, true, false, cond}
+use Prim.Native.Nat.{ℕ}
+use Rattle.bits.specs.Fields.{bits}
+use Rattle.bits.specs.Layout.{clear}
+use Rattle.bits.specs.Parity.{odd}
+use Rattle.records.specs.Layouts.{wordLayout}
+use Rattle.records.specs.declared.Kind.{Kind}
+use Rattle.records.specs.declared.Record.{Record}
+use Rattle.records.specs.declared.Refusal.{Refusal}
+use Rattle.labels.specs.Label.{labelOf}
+use Rattle.labels.specs.Assignment.{Assignment, document01}
+use Rattle.labels.specs.declared.Lookup.{Lookup}
+use Rattle.decode.specs.Rules.{Rules, rules, bodyOf}
+use Rattle.decode.specs.declared.Verdict.{Verdict}
+use Rattle.decode.specs.declared.Decoded.{Decoded}
+
+-- the first of the four tests that fails: digits, codes, value, angle parity
+abbrev pub verdict : Rules → Verdict
+verdict r =
+    cond (r .digits)
+    (cond (r .codes)
+    (cond (r .value) (cond (r .angle) Verdict.Kept (Verdict.Broken Refusal.AngleParity)) (Verdict.Broken Refusal.Value))
+    (Verdict.Broken Refusal.Code))
+    (Verdict.Broken Refusal.Digit)
+
+abbrev pub recordOf : Kind → ℕ → Record
+recordOf k w = record { source = bits 9 10 w; body = bodyOf k w }
+
+abbrev pub judged : Verdict → Record → Decoded
+judged Verdict.Kept r = Decoded.Accepted r
+judged (Verdict.Broken f) r = Decoded.Refused f
+
+-- a word of a known kind
+abbrev pub decodeKind : Kind → ℕ → Decoded
+decodeKind k w = cond (clear (wordLayout k) w) (judged (verdict (rules k w)) (recordOf k w)) (Decoded.Refused Refusal.ZeroBit)
+
+abbrev pub decodeFound : Lookup → ℕ → Decoded
+decodeFound (Lookup.Known k) w = decodeKind k w
+decodeFound Lookup.Unknown w = Decoded.Refused Refusal.Label
+
+-- a word, under an assignment of labels
+abbrev pub decodeWith : Assignment → ℕ → Decoded
+decodeWith a w = cond (odd w) (decodeFound (a .kind (labelOf w)) w) (Decoded.Refused Refusal.Parity)
+
+-- a word, under document 01's labels
+abbrev pub decodeOf : ℕ → Decoded
+decodeOf w = decodeWith document01 w
+
+-- ---- one step of the order at a time
+
+pub digits-broken : (r : Rules) → r .digits ≡ false → verdict r ≡ Verdict.Broken Refusal.Digit
+digits-broken r d = rw d
+
+pub codes-broken : (r : Rules) → r .digits ≡ true → r .codes ≡ false → verdict r ≡ Verdict.Broken Refusal.Code
+codes-broken r d c = rw (d, c)
+
+pub codes-kept : (r : Rules) → r .digits ≡ true → r .codes ≡ true → r .angle ≡ true → verdict r ≡ cond (r .value) Verdict.Kept (Verdict.Broken Refusal.Value)
+codes-kept r d c a = rw (d, c, a)
+
+pub zeros-broken : (k : Kind) (w : ℕ) → clear (wordLayout k) w ≡ false → decodeKind k w ≡ Decoded.Refused Refusal.ZeroBit
+zeros-broken k w z = rw z
+
+pub zeros-kept : (k : Kind) (w : ℕ) → clear (wordLayout k) w ≡ true → decodeKind k w ≡ judged (verdict (rules k w)) (recordOf k w)
+zeros-kept k w z = rw z
+
+pub parity-broken : (a : Assignment) (w : ℕ) → odd w ≡ false → decodeWith a w ≡ Decoded.Refused Refusal.Parity
+parity-broken a w p = rw p
+
+pub parity-kept : (a : Assignment) (w : ℕ) → odd w ≡ true → decodeWith a w ≡ decodeFound (a .kind (labelOf w)) w
+parity-kept a w p = rw p

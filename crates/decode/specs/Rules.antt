@@ -1,0 +1,92 @@
+-- What document 01 asks of a word of each kind beside its label, parity and zero bits, and the record that such a word holds.
+-- Assumes nothing.
+use mathlib.Core.Bool.{Bool, true, _&&_}
+use Prim.Native.Nat.{ℕ}
+use lib.Dec.{eqb, leb}
+use Rattle.bits.specs.Fields.{bits}
+use Rattle.bits.specs.Parity.{odd}
+use Rattle.bits.specs.Complement.{signed}
+use Rattle.records.specs.Codes.{binaryStatus, decimalStatus, decimalListed, markerOf, markerListed, categoryOf}
+use Rattle.records.specs.Frequencies.{tensListed, frequencyOf, legalFrequency}
+use Rattle.records.specs.declared.Band.{Band}
+use Rattle.records.specs.declared.Body.{Body}
+use Rattle.records.specs.declared.Kind.{Kind}
+use Rattle.records.specs.declared.Status.{Status}
+
+-- Four tests of a word: its decimal digits (refusal 5), its codes (4), its value (6) and its angle's parity (7).
+pub record Rules : Type 0 where
+  pub digits : Bool
+  pub codes : Bool
+  pub value : Bool
+  pub angle : Bool
+
+abbrev none : Rules
+none = record { digits = true; codes = true; value = true; angle = true }
+
+abbrev codesOnly : Bool → Rules
+codesOnly b = record { digits = true; codes = b; value = true; angle = true }
+
+abbrev valueOnly : Bool → Rules
+valueOnly b = record { digits = true; codes = true; value = b; angle = true }
+
+abbrev angleOnly : Bool → Rules
+angleOnly b = record { digits = true; codes = true; value = true; angle = b }
+
+-- the frequency in bits 15 to 29
+abbrev pub frequencyIn : Band → ℕ → ℕ
+frequencyIn b w = frequencyOf b (bits 15 18 w) (bits 19 22 w) (bits 23 26 w) (bits 27 29 w)
+
+-- a decimal word: digits up to 9, a status and a tens digit that have a code, and a frequency of the band
+abbrev pub decimal : Band → ℕ → Rules
+decimal b w = record {
+  digits = leb (bits 15 18 w) 9 && (leb (bits 19 22 w) 9 && leb (bits 23 26 w) 9);
+  codes = decimalListed (bits 30 31 w) && tensListed b (bits 27 29 w);
+  value = legalFrequency b (frequencyIn b w);
+  angle = true;
+}
+
+abbrev pub rules : Kind → ℕ → Rules
+rules Kind.VorAzimuth w = codesOnly (markerListed (bits 11 13 w))
+rules Kind.VorFrequency w = decimal Band.Vor w
+rules Kind.IlsCourse w = none
+rules Kind.IlsGlide w = none
+rules Kind.IlsFrequency w = decimal Band.Ils w
+rules Kind.MlsFrequency w = decimal Band.Mls w
+rules Kind.MlsAzimuthDeviation w = none
+rules Kind.MlsGlideDeviation w = none
+rules Kind.SelectedAzimuth w = valueOnly (leb (bits 20 28 w) 359)
+rules Kind.GreatestGlideAngle w = angleOnly (odd (bits 20 28 w))
+rules Kind.SelectedGlideAngle w = none
+-- bits 31, 30 of a part are no status: they read 00, 01, 10, 11 for parts 1 to 4
+rules Kind.Part1 w = codesOnly (eqb (bits 30 31 w) 0)
+rules Kind.Part2 w = codesOnly (eqb (bits 30 31 w) 1)
+rules Kind.Part3 w = codesOnly (eqb (bits 30 31 w) 2)
+rules Kind.Part4 w = codesOnly (eqb (bits 30 31 w) 3)
+
+abbrev flag : ℕ → ℕ → Bool
+flag k w = eqb (bits k k w) 1
+
+-- the status of a binary and of a decimal word
+abbrev binary : ℕ → Status
+binary w = binaryStatus (bits 30 31 w)
+
+abbrev coded : ℕ → Status
+coded w = decimalStatus (bits 30 31 w)
+
+-- what a word of each kind holds
+abbrev pub bodyOf : Kind → ℕ → Body
+bodyOf Kind.VorAzimuth w = Body.VorAzimuth (binary w) (markerOf (bits 11 13 w)) (record { 0 = signed 13 (bits 17 29 w) })
+bodyOf Kind.VorFrequency w = Body.VorFrequency (coded w) (frequencyIn Band.Vor w)
+bodyOf Kind.IlsCourse w = Body.IlsCourse (binary w) (flag 11 w) (record { 0 = signed 13 (bits 17 29 w) })
+bodyOf Kind.IlsGlide w = Body.IlsGlide (binary w) (flag 11 w) (record { 0 = signed 13 (bits 17 29 w) })
+bodyOf Kind.IlsFrequency w = Body.IlsFrequency (coded w) (categoryOf (bits 11 12 w)) (frequencyIn Band.Ils w)
+bodyOf Kind.MlsFrequency w = Body.MlsFrequency (coded w) (frequencyIn Band.Mls w)
+bodyOf Kind.MlsAzimuthDeviation w = Body.MlsAzimuthDeviation (binary w) (flag 11 w) (flag 12 w) (record { 0 = signed 16 (bits 14 29 w) })
+bodyOf Kind.MlsGlideDeviation w = Body.MlsGlideDeviation (binary w) (flag 11 w) (flag 12 w) (record { 0 = signed 16 (bits 14 29 w) })
+bodyOf Kind.SelectedAzimuth w = Body.SelectedAzimuth (binary w) (flag 19 w) (bits 20 28 w)
+bodyOf Kind.GreatestGlideAngle w = Body.GreatestGlideAngle (binary w) (bits 20 27 w)
+bodyOf Kind.SelectedGlideAngle w = Body.SelectedGlideAngle (binary w) (flag 19 w) (bits 20 28 w)
+bodyOf Kind.Part1 w = Body.Part1 (bits 14 21 w) (bits 22 29 w)
+bodyOf Kind.Part2 w = Body.Part2 (bits 14 29 w)
+bodyOf Kind.Part3 w = Body.Part3 (bits 14 29 w)
+bodyOf Kind.Part4 w = Body.Part4 (flag 11 w) (bits 14 29 w)

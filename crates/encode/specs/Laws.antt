@@ -1,0 +1,83 @@
+-- What a legal body writes fits its layout, so that the word has 32 bits.
+-- Assumes nothing.
+use mathlib.Core.Path.{_≡_, refl, sym, ap, _∙_, subst}
+use mathlib.Core.Bool.{Bool, true, false, cond, _&&_}
+use mathlib.Core.List.{List, [], _∷_, _++_}
+use Prim.Native.Nat.{ℕ, _+_, _*_, _/_, _%_, _^_, _<_, _≤_}
+use native.Mathlib.Nat.{mod-lt}
+use native.Mathlib.Omega.{arith}
+use borrow.Author.Tests.{leb-true}
+use lib.Dec.{leb, lit<}
+use Rattle.bits.specs.Layout.{Segment, field, Fit, join, size}
+use Rattle.bits.specs.Laws.{both-true, join-lt}
+use Rattle.bits.specs.Complement.{complement-lt}
+use Rattle.bits.specs.Parity.{withParity, parity-lt}
+use Rattle.records.specs.Codes.{binary-lt, decimal-lt, marker-lt, category-lt, flag-lt}
+use Rattle.records.specs.Frequencies.{legalFrequency, tensCode, tens-code-lt}
+use Rattle.records.specs.Kinds.{kindOf}
+use Rattle.records.specs.Layouts.{upperLayout}
+use Rattle.records.specs.declared.Band.{Band}
+use Rattle.records.specs.declared.Body.{Body}
+use Rattle.records.specs.declared.Kind.{Kind}
+use Rattle.records.specs.declared.Record.{Record}
+use Rattle.labels.specs.Label.{labelOf, label-lt}
+use Rattle.labels.specs.Assignment.{Assignment}
+use Rattle.encode.specs.Fields.{fieldsOf, statusBits}
+use Rattle.encode.specs.Encode.{valuesLegal, upperBits, lowerBits}
+
+below : (n k : ℕ) → leb n k ≡ true → n < k + 1
+below n k e = omega (arith, leb-true n k e)
+
+abbrev Writes : Body → Type 0
+Writes b = Fit (upperLayout (kindOf b)) (fieldsOf b ++ (statusBits b ∷ []))
+
+digit : (n : ℕ) → n % 10 < 16
+digit n = omega arith
+
+pub fields-fit : (b : Body) → valuesLegal b ≡ true → Writes b
+fields-fit (Body.VorAzimuth s m c) e = (marker-lt m, (complement-lt 13 (c .0), (binary-lt s, tt)))
+fields-fit (Body.VorFrequency s f) e = (digit f, (digit (f / 10), (digit (f / 100), (tens-code-lt Band.Vor f e, (decimal-lt s, tt)))))
+fields-fit (Body.IlsCourse s i c) e = (flag-lt i, (complement-lt 13 (c .0), (binary-lt s, tt)))
+fields-fit (Body.IlsGlide s i c) e = (flag-lt i, (complement-lt 13 (c .0), (binary-lt s, tt)))
+fields-fit (Body.IlsFrequency s k f) e = (category-lt k, (digit f, (digit (f / 10), (digit (f / 100), (tens-code-lt Band.Ils f e, (decimal-lt s, tt))))))
+fields-fit (Body.MlsFrequency s f) e = (digit f, (digit (f / 10), (digit (f / 100), (tens-code-lt Band.Mls f e, (decimal-lt s, tt)))))
+fields-fit (Body.MlsAzimuthDeviation s i l c) e = (flag-lt i, (flag-lt l, (complement-lt 16 (c .0), (binary-lt s, tt))))
+fields-fit (Body.MlsGlideDeviation s i l c) e = (flag-lt i, (flag-lt l, (complement-lt 16 (c .0), (binary-lt s, tt))))
+fields-fit (Body.SelectedAzimuth s m d) e = (flag-lt m, (omega (arith, leb-true d 359 e), (binary-lt s, tt)))
+fields-fit (Body.GreatestGlideAngle s t) e = (parity-lt 8 t (below t 255 e), (binary-lt s, tt))
+fields-fit (Body.SelectedGlideAngle s m t) e = (flag-lt m, (below t 511 e, (binary-lt s, tt)))
+fields-fit (Body.Part1 n c) e =
+    let b = both-true (leb n 255) (leb c 255) e in
+    (below n 255 (b .0), (below c 255 (b .1), (lit< tt, tt)))
+fields-fit (Body.Part2 c) e = (below c 65535 e, (lit< tt, tt))
+fields-fit (Body.Part3 c) e = (below c 65535 e, (lit< tt, tt))
+fields-fit (Body.Part4 g c) e = (flag-lt g, (below c 65535 e, (lit< tt, tt)))
+
+-- bits 11 to 31 are 21 bits
+pub upper-size : (k : Kind) → size (upperLayout k) ≡ 21
+upper-size Kind.VorAzimuth = refl
+upper-size Kind.VorFrequency = refl
+upper-size Kind.IlsCourse = refl
+upper-size Kind.IlsGlide = refl
+upper-size Kind.IlsFrequency = refl
+upper-size Kind.MlsFrequency = refl
+upper-size Kind.MlsAzimuthDeviation = refl
+upper-size Kind.MlsGlideDeviation = refl
+upper-size Kind.SelectedAzimuth = refl
+upper-size Kind.GreatestGlideAngle = refl
+upper-size Kind.SelectedGlideAngle = refl
+upper-size Kind.Part1 = refl
+upper-size Kind.Part2 = refl
+upper-size Kind.Part3 = refl
+upper-size Kind.Part4 = refl
+
+pub upper-lt : (b : Body) → valuesLegal b ≡ true → upperBits b < 2 ^ 21
+upper-lt b e =
+    subst (λ (n : ℕ). upperBits b < 2 ^ n) (upper-size (kindOf b)) (join-lt (upperLayout (kindOf b)) (fieldsOf b ++ (statusBits b ∷ [])) (fields-fit b e))
+
+-- bits 1 to 31
+pub lower-is : (a : Assignment) (r : Record) → lowerBits a r ≡ (upperBits (r .body) * 4 + r .source) * 256 + labelOf (a .label (kindOf (r .body)))
+lower-is a r = refl
+
+pub lower-lt : (a : Assignment) (r : Record) → r .source < 4 → valuesLegal (r .body) ≡ true → lowerBits a r < 2 ^ 31
+lower-lt a r s e = omega (arith, upper-lt (r .body) e, label-lt (a .label (kindOf (r .body))))

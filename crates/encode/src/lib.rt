@@ -1,0 +1,315 @@
+// A record to its word, or to its refusal.
+use records::Band;
+use records::Body;
+use records::Record;
+use records::Refusal;
+use records::Status;
+ghost use mathlib.Core.Path.{_≡_};
+ghost use mathlib.Core.Bool.{true};
+ghost use Prim.Native.Nat.{_+_, _*_, _<_, _/_, _%_};
+ghost use Rattle.bits.specs.Complement.{complement};
+ghost use Rattle.records.specs.Codes.{binaryCode, decimalCode, flagBit, decimalListed};
+ghost use Rattle.records.specs.Frequencies.{tensCode};
+ghost use Rattle.labels.specs.Assignment.{document01};
+ghost use Rattle.encode.specs.Encode.{codesListed, narrow, wide, valuesLegal, upperBits, wordOf, encodeOf};
+
+// What writing a record gives: a word, or a refusal.
+pub enum Encoded {
+    Word(u32),
+    Refused(Refusal),
+}
+
+// Whether a count has 13 bits.
+fn is_narrow(count: i16) -> bool
+    ensures { λ r. ⌜ r ≡ narrow count ⌝ }
+{
+    (-4096 <= count) & (count <= 4095)
+}
+
+// Whether a count has 16 bits.
+fn is_wide(count: i16) -> bool
+    ensures { λ r. ⌜ r ≡ wide count ⌝ }
+{
+    (-32768 <= count) & (count <= 32767)
+}
+
+// Whether a status has a code in a decimal word.
+fn is_decimal(status: Status) -> bool
+    ensures { λ r. ⌜ r ≡ decimalListed (decimalCode status) ⌝ }
+{
+    records::decimal_code(status) < 3
+}
+
+// Whether every code of a body is in its list.
+fn codes_listed(body: Body) -> bool
+    ensures { λ r. ⌜ r ≡ codesListed body ⌝ }
+{
+    match body {
+        Body::VorAzimuth {
+            status: _,
+            marker: _,
+            count: _,
+        } => true,
+        Body::VorFrequency {
+            status,
+            frequency: _,
+        } => is_decimal(status),
+        Body::IlsCourse {
+            status: _,
+            inhibit: _,
+            count: _,
+        } => true,
+        Body::IlsGlide {
+            status: _,
+            inhibit: _,
+            count: _,
+        } => true,
+        Body::IlsFrequency {
+            status,
+            category: _,
+            frequency: _,
+        } => is_decimal(status),
+        Body::MlsFrequency {
+            status,
+            frequency: _,
+        } => is_decimal(status),
+        Body::MlsAzimuthDeviation {
+            status: _,
+            inhibit: _,
+            clearance: _,
+            count: _,
+        } => true,
+        Body::MlsGlideDeviation {
+            status: _,
+            inhibit: _,
+            clearance: _,
+            count: _,
+        } => true,
+        Body::SelectedAzimuth {
+            status: _,
+            manual: _,
+            degrees: _,
+        } => true,
+        Body::GreatestGlideAngle {
+            status: _,
+            tenths: _,
+        } => true,
+        Body::SelectedGlideAngle {
+            status: _,
+            manual: _,
+            tenths: _,
+        } => true,
+        Body::Part1 {
+            word_number: _,
+            content: _,
+        } => true,
+        Body::Part2 { content: _ } => true,
+        Body::Part3 { content: _ } => true,
+        Body::Part4 {
+            parity_good: _,
+            content: _,
+        } => true,
+    }
+}
+
+// Whether every other field of a body is legal.
+fn values_legal(body: Body) -> bool
+    ensures { λ r. ⌜ r ≡ valuesLegal body ⌝ }
+{
+    match body {
+        Body::VorAzimuth {
+            status: _,
+            marker: _,
+            count,
+        } => is_narrow(count.0),
+        Body::VorFrequency {
+            status: _,
+            frequency,
+        } => records::is_legal_frequency(Band::Vor, frequency),
+        Body::IlsCourse {
+            status: _,
+            inhibit: _,
+            count,
+        } => is_narrow(count.0),
+        Body::IlsGlide {
+            status: _,
+            inhibit: _,
+            count,
+        } => is_narrow(count.0),
+        Body::IlsFrequency {
+            status: _,
+            category: _,
+            frequency,
+        } => records::is_legal_frequency(Band::Ils, frequency),
+        Body::MlsFrequency {
+            status: _,
+            frequency,
+        } => records::is_legal_frequency(Band::Mls, frequency),
+        Body::MlsAzimuthDeviation {
+            status: _,
+            inhibit: _,
+            clearance: _,
+            count,
+        } => is_wide(count.0),
+        Body::MlsGlideDeviation {
+            status: _,
+            inhibit: _,
+            clearance: _,
+            count,
+        } => is_wide(count.0),
+        Body::SelectedAzimuth {
+            status: _,
+            manual: _,
+            degrees,
+        } => degrees <= 359,
+        Body::GreatestGlideAngle { status: _, tenths } => tenths <= 255,
+        Body::SelectedGlideAngle {
+            status: _,
+            manual: _,
+            tenths,
+        } => tenths <= 511,
+        Body::Part1 {
+            word_number,
+            content,
+        } => (word_number <= 255) & (content <= 255),
+        Body::Part2 { content } => content <= 65535,
+        Body::Part3 { content } => content <= 65535,
+        Body::Part4 {
+            parity_good: _,
+            content,
+        } => content <= 65535,
+    }
+}
+
+// Bits 11 to 31 of a word with a count of 13 bits.
+fn upper_narrow(status: Status, first: u32, count: i16) -> u32
+    requires { ⌜ first < 8 ⌝ }
+    ensures { λ r. ⌜ r ≡ (binaryCode status * 8192 + complement 13 count) * 64 + first ⌝ }
+{
+    (records::binary_code(status) * 8192 + bits::complement_13(count)) * 64 + first
+}
+
+// Bits 11 to 31 of a word with a count of 16 bits.
+fn upper_wide(status: Status, inhibit: bool, clearance: bool, count: i16) -> u32
+    ensures { λ r. ⌜ r ≡ ((binaryCode status * 65536 + complement 16 count) * 4 + flagBit clearance) * 2 + flagBit inhibit ⌝ }
+{
+    let deviation = records::binary_code(status) * 65536 + bits::complement_16(count);
+    (deviation * 4 + records::flag_bit(clearance)) * 2 + records::flag_bit(inhibit)
+}
+
+// Bits 11 to 31 of a decimal word.
+fn upper_decimal(band: Band, status: Status, first: u32, frequency: u32) -> u32
+    requires { ⌜ first < 4 ⌝ }
+    ensures { λ r. ⌜ r ≡ ((((decimalCode status * 8 + tensCode band (frequency / 1000 % 10)) * 16 + frequency / 100 % 10) * 16 + frequency / 10 % 10) * 16 + frequency % 10) * 16 + first ⌝ }
+{
+    let tens = records::decimal_code(status) * 8 + records::tens_code(band, frequency / 1000 % 10);
+    let tenths = (tens * 16 + frequency / 100 % 10) * 16 + frequency / 10 % 10;
+    (tenths * 16 + frequency % 10) * 16 + first
+}
+
+// Bits 11 to 31 of a word with a setting.
+fn upper_setting(status: Status, manual: bool, value: u32) -> u32
+    requires { ⌜ value < 131072 ⌝ }
+    ensures { λ r. ⌜ r ≡ ((binaryCode status * 1024 + value) * 2 + flagBit manual) * 256 ⌝ }
+{
+    ((records::binary_code(status) * 1024 + value) * 2 + records::flag_bit(manual)) * 256
+}
+
+// Bits 11 to 31 of a body's word.
+fn upper_bits(body: Body) -> u32
+    ensures { λ r. ⌜ r ≡ upperBits body ⌝ }
+{
+    match body {
+        Body::VorAzimuth {
+            status,
+            marker,
+            count,
+        } => upper_narrow(status, records::marker_code(marker), count.0),
+        Body::VorFrequency { status, frequency } => upper_decimal(Band::Vor, status, 0, frequency),
+        Body::IlsCourse {
+            status,
+            inhibit,
+            count,
+        } => upper_narrow(status, records::flag_bit(inhibit), count.0),
+        Body::IlsGlide {
+            status,
+            inhibit,
+            count,
+        } => upper_narrow(status, records::flag_bit(inhibit), count.0),
+        Body::IlsFrequency {
+            status,
+            category,
+            frequency,
+        } => upper_decimal(
+            Band::Ils,
+            status,
+            records::category_code(category),
+            frequency,
+        ),
+        Body::MlsFrequency { status, frequency } => upper_decimal(Band::Mls, status, 0, frequency),
+        Body::MlsAzimuthDeviation {
+            status,
+            inhibit,
+            clearance,
+            count,
+        } => upper_wide(status, inhibit, clearance, count.0),
+        Body::MlsGlideDeviation {
+            status,
+            inhibit,
+            clearance,
+            count,
+        } => upper_wide(status, inhibit, clearance, count.0),
+        Body::SelectedAzimuth {
+            status,
+            manual,
+            degrees,
+        } => upper_setting(status, manual, degrees as u32),
+        Body::GreatestGlideAngle { status, tenths } => upper_setting(
+            status,
+            false,
+            bits::parity_bit(tenths as u32) * 256 + tenths as u32,
+        ),
+        Body::SelectedGlideAngle {
+            status,
+            manual,
+            tenths,
+        } => upper_setting(status, manual, tenths as u32),
+        Body::Part1 {
+            word_number,
+            content,
+        } => (content as u32 * 256 + word_number as u32) * 8,
+        Body::Part2 { content } => (65536 + content as u32) * 8,
+        Body::Part3 { content } => (131072 + content as u32) * 8,
+        Body::Part4 {
+            parity_good,
+            content,
+        } => (196608 + content as u32) * 8 + records::flag_bit(parity_good),
+    }
+}
+
+// The word of a legal record.
+fn word_of(record: Record) -> u32
+    requires { ⌜ («record» .source < 4) × (valuesLegal («record» .body) ≡ true) ⌝ }
+    ensures { λ r. ⌜ r ≡ wordOf document01 «record» ⌝ }
+{
+    let body = record.body;
+    let row = labels::row_of(records::kind_of(body));
+    let label = row.label;
+    let lower = (upper_bits(body) * 4 + record.source as u32) * 256 + labels::label_of(label);
+    bits::parity_bit(lower) * 2147483648 + lower
+}
+
+// The word of a record, or its refusal.
+pub fn encode(record: Record) -> Encoded
+    ensures { λ r. ⌜ r ≡ encodeOf «record» ⌝ }
+{
+    let body = record.body;
+    let codes = (record.source <= 3) & codes_listed(body);
+    if !codes {
+        return Encoded::Refused(Refusal::Code);
+    }
+    if !values_legal(body) {
+        return Encoded::Refused(Refusal::Value);
+    }
+    Encoded::Word(word_of(record))
+}

@@ -1,0 +1,5 @@
+pub mod Digits
+pub mod Reading
+pub mod Back
+pub mod Forth
+pub mod RoundTrip
