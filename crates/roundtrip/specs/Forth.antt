@@ -44,7 +44,7 @@ Reads b w = Kept (rules (kindOf b) w) × (bodyOf (kindOf b) w ≡ b)
 kept : {r : Rules} → r .digits ≡ true → r .codes ≡ true → r .value ≡ true → r .angle ≡ true → Kept r
 kept d c v a = record { digits = d; codes = c; value = v; angle = a }
 
-marker-listed : (m : Marker) → markerListed (markerCode m) ≡ true
+pub marker-listed : (m : Marker) → markerListed (markerCode m) ≡ true
 marker-listed None = refl
 marker-listed Outer = refl
 marker-listed Middle = refl
