@@ -1,0 +1,4 @@
+pub mod Chart
+pub mod Order
+pub mod Points
+pub mod Words

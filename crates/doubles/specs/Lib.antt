@@ -1,0 +1,4 @@
+pub mod Exact
+pub mod Nearest
+pub mod Rounded
+pub mod Doubles

@@ -1,0 +1,5 @@
+pub mod Take
+pub mod Sequence
+pub mod Bits
+pub mod Run
+pub mod Provenance

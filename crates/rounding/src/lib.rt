@@ -1,0 +1,20 @@
+ghost use mathlib.Core.Path.{_≡_};
+ghost use Prim.Native.Nat.{_<_};
+ghost use Rattle.rounding.specs.Rounding.{roundEven};
+
+// n over d rounded to the nearest whole number, a tie to the even one.
+pub fn round_half_even(n: u64, d: u64) -> u64
+    requires { ⌜ 0 < d ⌝ }
+    ensures { λ r. ⌜ r ≡ roundEven n d ⌝ }
+{
+    let quotient = n / d;
+    let remainder = n % d;
+    let rest = d - remainder;
+    if remainder < rest {
+        return quotient;
+    }
+    if rest < remainder {
+        return quotient + 1;
+    }
+    quotient + quotient % 2
+}
