@@ -20,6 +20,7 @@ pub record Rules : Type 0 where
   pub value : Bool
   pub angle : Bool
 
+-- no test, or one of them
 abbrev none : Rules
 none = record { digits = true; codes = true; value = true; angle = true }
 
@@ -63,29 +64,30 @@ rules Kind.Part2 w = codesOnly (eqb (bits 30 31 w) 1)
 rules Kind.Part3 w = codesOnly (eqb (bits 30 31 w) 2)
 rules Kind.Part4 w = codesOnly (eqb (bits 30 31 w) 3)
 
+-- bit k is one
 abbrev flag : ℕ → ℕ → Bool
 flag k w = eqb (bits k k w) 1
 
 -- the status of a binary and of a decimal word
-abbrev binary : ℕ → Status
-binary w = binaryStatus (bits 30 31 w)
+abbrev binaryIn : ℕ → Status
+binaryIn w = binaryStatus (bits 30 31 w)
 
-abbrev coded : ℕ → Status
-coded w = decimalStatus (bits 30 31 w)
+abbrev decimalIn : ℕ → Status
+decimalIn w = decimalStatus (bits 30 31 w)
 
 -- what a word of each kind holds
 abbrev pub bodyOf : Kind → ℕ → Body
-bodyOf Kind.VorAzimuth w = Body.VorAzimuth (binary w) (markerOf (bits 11 13 w)) (record { 0 = signed 13 (bits 17 29 w) })
-bodyOf Kind.VorFrequency w = Body.VorFrequency (coded w) (frequencyIn Band.Vor w)
-bodyOf Kind.IlsCourse w = Body.IlsCourse (binary w) (flag 11 w) (record { 0 = signed 13 (bits 17 29 w) })
-bodyOf Kind.IlsGlide w = Body.IlsGlide (binary w) (flag 11 w) (record { 0 = signed 13 (bits 17 29 w) })
-bodyOf Kind.IlsFrequency w = Body.IlsFrequency (coded w) (categoryOf (bits 11 12 w)) (frequencyIn Band.Ils w)
-bodyOf Kind.MlsFrequency w = Body.MlsFrequency (coded w) (frequencyIn Band.Mls w)
-bodyOf Kind.MlsAzimuthDeviation w = Body.MlsAzimuthDeviation (binary w) (flag 11 w) (flag 12 w) (record { 0 = signed 16 (bits 14 29 w) })
-bodyOf Kind.MlsGlideDeviation w = Body.MlsGlideDeviation (binary w) (flag 11 w) (flag 12 w) (record { 0 = signed 16 (bits 14 29 w) })
-bodyOf Kind.SelectedAzimuth w = Body.SelectedAzimuth (binary w) (flag 19 w) (bits 20 28 w)
-bodyOf Kind.GreatestGlideAngle w = Body.GreatestGlideAngle (binary w) (bits 20 27 w)
-bodyOf Kind.SelectedGlideAngle w = Body.SelectedGlideAngle (binary w) (flag 19 w) (bits 20 28 w)
+bodyOf Kind.VorAzimuth w = Body.VorAzimuth (binaryIn w) (markerOf (bits 11 13 w)) (record { 0 = signed 13 (bits 17 29 w) })
+bodyOf Kind.VorFrequency w = Body.VorFrequency (decimalIn w) (frequencyIn Band.Vor w)
+bodyOf Kind.IlsCourse w = Body.IlsCourse (binaryIn w) (flag 11 w) (record { 0 = signed 13 (bits 17 29 w) })
+bodyOf Kind.IlsGlide w = Body.IlsGlide (binaryIn w) (flag 11 w) (record { 0 = signed 13 (bits 17 29 w) })
+bodyOf Kind.IlsFrequency w = Body.IlsFrequency (decimalIn w) (categoryOf (bits 11 12 w)) (frequencyIn Band.Ils w)
+bodyOf Kind.MlsFrequency w = Body.MlsFrequency (decimalIn w) (frequencyIn Band.Mls w)
+bodyOf Kind.MlsAzimuthDeviation w = Body.MlsAzimuthDeviation (binaryIn w) (flag 11 w) (flag 12 w) (record { 0 = signed 16 (bits 14 29 w) })
+bodyOf Kind.MlsGlideDeviation w = Body.MlsGlideDeviation (binaryIn w) (flag 11 w) (flag 12 w) (record { 0 = signed 16 (bits 14 29 w) })
+bodyOf Kind.SelectedAzimuth w = Body.SelectedAzimuth (binaryIn w) (flag 19 w) (bits 20 28 w)
+bodyOf Kind.GreatestGlideAngle w = Body.GreatestGlideAngle (binaryIn w) (bits 20 27 w)
+bodyOf Kind.SelectedGlideAngle w = Body.SelectedGlideAngle (binaryIn w) (flag 19 w) (bits 20 28 w)
 bodyOf Kind.Part1 w = Body.Part1 (bits 14 21 w) (bits 22 29 w)
 bodyOf Kind.Part2 w = Body.Part2 (bits 14 29 w)
 bodyOf Kind.Part3 w = Body.Part3 (bits 14 29 w)

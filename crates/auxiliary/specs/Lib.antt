@@ -1,0 +1,5 @@
+pub mod Parts
+pub mod Step
+pub mod Carries
+pub mod Runs
+pub mod Bits
