@@ -1,10 +1,10 @@
 # Two commands do all the set-up: `make demo` and `make test`. Both need the Rattle kit's `rt` and nothing else.
 .PHONY: demo test fmt
 
-# Decodes the words of the test data and shows how many lines were right.
+# Shows what document 01's worked words read.
 demo:
-	rt check check_words
-	@./target/bin/check_words
+	rt check reading_lines
+	@./target/bin/reading_lines
 
 # The gate: layout of the sources, then every proof from nothing, every must-fail edit and every program.
 test:

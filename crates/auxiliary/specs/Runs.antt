@@ -16,7 +16,7 @@ use Rattle.groups.specs.declared.Group.{Group}
 use Rattle.groups.specs.declared.Part.{Part}
 use Rattle.groups.specs.declared.Part.the-variants.{One, Two, Three, Four}
 use Rattle.groups.specs.declared.Reassembly.the-variants.{Empty}
-use Rattle.groups.specs.Run.{Input, part, other, Outcome, answered, own, groupOf, outcomeOf, nextOf, outcomes, heldAfter, others, inTurn, inTurnAnswers, words-completed, nothing-held as parts-held}
+use Rattle.groups.specs.Run.{Input, part, other, Outcome, answered, own, groupOf, outcomeOf, nextOf, outcomes, heldAfter, others, firstThree, firstThreeAnswers, words-completed, nothing-held as parts-held}
 use Rattle.groups.specs.Provenance.{CompletedBy, completed-only-by}
 use Rattle.auxiliary.specs.declared.PartIn.{PartIn}
 use Rattle.auxiliary.specs.declared.PartIn.the-variants.{Carried, Refused}
@@ -114,14 +114,14 @@ sequence-step w p xs fs rest out e r q =
 
 module _ (s : Reassembler) (earlier later : List ℕ) (w₁ w₂ w₃ w₄ : ℕ) (x₁ x₂ x₃ : List ℕ) (f₁ f₂ f₃ : List Refusal)
     (h : PartsInSequence w₁ w₂ w₃ w₄ x₁ x₂ x₃ f₁ f₂ f₃) where
-  sequence-is : map classify (sequence w₁ w₂ w₃ x₁ x₂ x₃) ≡ inTurn (bits 9 10 w₁) (bits 14 29 w₁) (bits 14 29 w₂) (bits 14 29 w₃) f₁ f₂ f₃
+  sequence-is : map classify (sequence w₁ w₂ w₃ x₁ x₂ x₃) ≡ firstThree (bits 9 10 w₁) (bits 14 29 w₁) (bits 14 29 w₂) (bits 14 29 w₃) f₁ f₂ f₃
   sequence-is =
       sequence-step w₁ _ x₁ f₁ _ _ (is w₁ (One _ _) (h .first, refl, refl)) (h .refused₁)
       (sequence-step w₂ _ x₂ f₂ _ _ (is w₂ (Two _ _) (h .second, h .source₂, refl)) (h .refused₂)
       (ap₂ (λ (i : Input Refusal) (l : List (Input Refusal)). i ∷ l) (is w₃ (Three _ _) (h .third, h .source₃, refl)) (refused-others x₃ f₃ (h .refused₃))))
 
   words-are : map classify (earlier ++ (sequence w₁ w₂ w₃ x₁ x₂ x₃ ++ (w₄ ∷ later)))
-      ≡ map classify earlier ++ (inTurn (bits 9 10 w₁) (bits 14 29 w₁) (bits 14 29 w₂) (bits 14 29 w₃) f₁ f₂ f₃
+      ≡ map classify earlier ++ (firstThree (bits 9 10 w₁) (bits 14 29 w₁) (bits 14 29 w₂) (bits 14 29 w₃) f₁ f₂ f₃
       ++ (part (Four (bits 9 10 w₁) (bits 14 29 w₄) (eqb (bits 11 11 w₄) 1)) ∷ map classify later))
   words-are =
       map-append classify earlier _
@@ -129,7 +129,7 @@ module _ (s : Reassembler) (earlier later : List ℕ) (w₁ w₂ w₃ w₄ : ℕ
       (map-append classify (sequence w₁ w₂ w₃ x₁ x₂ x₃) (w₄ ∷ later)
       ∙ ap₂ (λ (l : List (Input Refusal)) (i : Input Refusal). l ++ (i ∷ map classify later)) sequence-is (is w₄ (Four _ _ _) (h .fourth, h .source₄, refl, refl)))
 
-  sequence-answered : map wordAnswer (inTurnAnswers f₁ f₂ f₃) ≡ sequenceAnswers f₁ f₂ f₃
+  sequence-answered : map wordAnswer (firstThreeAnswers f₁ f₂ f₃) ≡ sequenceAnswers f₁ f₂ f₃
   sequence-answered = simp (map-append, map-map)
 
   abbrev ws : List ℕ
@@ -146,7 +146,7 @@ module _ (s : Reassembler) (earlier later : List ℕ) (w₁ w₂ w₃ w₄ : ℕ
       (words-completed classify ws (s .«group_c») (map classify earlier) (map classify later) _ _ _ _ _ _ f₁ f₂ f₃ words-are)
       ∙ map-append wordAnswer (outcomes (s .«group_c») (map classify earlier)) _
       ∙ ap₂ (λ (l m : List WordAnswer). l ++ m) (sym (answers-are s earlier))
-      (map-append wordAnswer (inTurnAnswers f₁ f₂ f₃) _
+      (map-append wordAnswer (firstThreeAnswers f₁ f₂ f₃) _
       ∙ ap₂ (λ (l m : List WordAnswer). l ++ (Complete (groupFrom w₁ w₂ w₃ w₄) ∷ m)) sequence-answered (sym (answers-are new later)))
 
   -- Nothing is held after part 4.
@@ -256,7 +256,7 @@ pub given-only-by : (words : List ℕ) (before later : List WordAnswer) (g : Gro
 given-only-by words before later g e =
     let t = given-by new words before later g e in
     let k = t .2 in
-    let c₁ = cut classify (k .before) (k .earlier) _ (k .in-turn) in
+    let c₁ = cut classify (k .before) (k .earlier) _ (k .first-three) in
     let h₁ = headed classify (c₁ .back) _ _ (c₁ .back-is) in
     let c₂ = cut classify (h₁ .tail) (others (k .r₁)) _ (h₁ .tail-is) in
     let h₂ = headed classify (c₂ .back) _ _ (c₂ .back-is) in

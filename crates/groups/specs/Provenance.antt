@@ -14,7 +14,7 @@ use Rattle.groups.specs.declared.Reassembly.the-variants.{Empty, AfterOn
 use Rattle.groups.specs.declared.Step.{Step}
 use Rattle.groups.specs.Take.{takeOf}
 use Rattle.groups.specs.Sequence.{InSequence, first, second, third, fourth, sequence, second-taken, third-taken, fourth-taken}
-use Rattle.groups.specs.Run.{Input, part, other, Outcome, answered, groupOf, outcomeOf, nextOf, outcomes, heldAfter, others, inTurn}
+use Rattle.groups.specs.Run.{Input, part, other, Outcome, answered, groupOf, outcomeOf, nextOf, outcomes, heldAfter, others, firstThree}
 
 module _ {R : Type 0} where
   -- the parts that are held, in order
@@ -114,9 +114,9 @@ module _ {R : Type 0} where
   completing held (part p) g e = (p, refl, completes held p g (cc))
   completing held (other r) g e = let z : _≡_ {A = ℕ} 0 1 = cc in absurd (omega arith)
 
-  three-in-turn : (s a b c : ℕ) (xs : List (Input R)) → HeldFrom (AfterThree s a b c) xs
-      → (earlier : List (Input R)) × (r₁ : List R) × (r₂ : List R) × (r₃ : List R) × (xs ≡ earlier ++ inTurn s a b c r₁ r₂ r₃)
-  three-in-turn s a b c xs h = (h .3 .3 .0, h .3 .3 .1, h .3 .1, h .1, rw (h .2, h .3 .2, h .3 .3 .2) (simp append-assoc))
+  held-first-three : (s a b c : ℕ) (xs : List (Input R)) → HeldFrom (AfterThree s a b c) xs
+      → (earlier : List (Input R)) × (r₁ : List R) × (r₂ : List R) × (r₃ : List R) × (xs ≡ earlier ++ firstThree s a b c r₁ r₂ r₃)
+  held-first-three s a b c xs h = (h .3 .3 .0, h .3 .3 .1, h .3 .1, h .1, rw (h .2, h .3 .2, h .3 .3 .2) (simp append-assoc))
 
 -- Any words, and any rule that tells what each of them is.
 module _ {W R : Type 0} (classify : W → Input R) where
@@ -128,7 +128,7 @@ module _ {W R : Type 0} (classify : W → Input R) where
     pub after : List W
     pub words-are : words ≡ before ++ (word ∷ after)
     pub answers-are : answers ≡ outcomes start (map classify before)
-    -- it is part four, and what is held at the start, followed by the words before, ends with the three others in turn
+    -- it is part four, and what is held at the start, followed by the words before, ends with the three others in sequence
     pub source : ℕ
     pub first : ℕ
     pub second : ℕ
@@ -140,7 +140,7 @@ module _ {W R : Type 0} (classify : W → Input R) where
     pub r₁ : List R
     pub r₂ : List R
     pub r₃ : List R
-    pub in-turn : stored start ++ map classify before ≡ earlier ++ inTurn source first second third r₁ r₂ r₃
+    pub first-three : stored start ++ map classify before ≡ earlier ++ firstThree source first second third r₁ r₂ r₃
     -- and the group is theirs
     pub group : g ≡ groupOf first second third fourth mark
 
@@ -177,7 +177,7 @@ module _ {W R : Type 0} (classify : W → Input R) where
       let xs = map classify (l .before) in
       let f = completing (heldAfter start xs) (classify (l .word)) g (l .is) in
       let k = f .2 in
-      let t = three-in-turn (k .source) (k .first) (k .second) (k .third) (stored start ++ xs)
+      let t = held-first-three (k .source) (k .first) (k .second) (k .third) (stored start ++ xs)
       (rw (k .holding) at (held-from R start xs)) in
       record {
         before = l .before;
@@ -196,6 +196,6 @@ module _ {W R : Type 0} (classify : W → Input R) where
         r₁ = t .1;
         r₂ = t .2;
         r₃ = t .3;
-        in-turn = t .4;
+        first-three = t .4;
         group = k .group;
       }

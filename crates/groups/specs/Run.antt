@@ -54,13 +54,13 @@ module _ {R : Type 0} where
   others = map other
 
   -- parts one, two and three of one source in sequence, with only other words after each
-  abbrev pub inTurn : (source a b c : ℕ) (r₁ r₂ r₃ : List R) → List (Input R)
-  inTurn source a b c r₁ r₂ r₃ =
+  abbrev pub firstThree : (source a b c : ℕ) (r₁ r₂ r₃ : List R) → List (Input R)
+  firstThree source a b c r₁ r₂ r₃ =
       part (One source a) ∷ (others r₁ ++ (part (Two source b) ∷ (others r₂ ++ (part (Three source c) ∷ others r₃))))
 
   -- the answers to them: each part is taken, and each other word has its own answer
-  abbrev pub inTurnAnswers : (r₁ r₂ r₃ : List R) → List (Outcome R)
-  inTurnAnswers r₁ r₂ r₃ =
+  abbrev pub firstThreeAnswers : (r₁ r₂ r₃ : List R) → List (Outcome R)
+  firstThreeAnswers r₁ r₂ r₃ =
       answered Incomplete ∷ (map own r₁ ++ (answered Incomplete ∷ (map own r₂ ++ (answered Incomplete ∷ map own r₃))))
 
   heldAfter-append : (held : Reassembly) (xs ys : List (Input R)) → heldAfter held (xs ++ ys) ≡ heldAfter (heldAfter held xs) ys
@@ -92,44 +92,44 @@ module _ {R : Type 0} where
       ap (λ (t : Step). heldAfter (t .next) (others rs ++ xs)) e ∙ simp (heldAfter-append, heldAfter-others)
 
   module _ (source a b c : ℕ) (r₁ r₂ r₃ : List R) where
-    outcomes-inTurn : (held : Reassembly) → outcomes held (inTurn source a b c r₁ r₂ r₃) ≡ inTurnAnswers r₁ r₂ r₃
-    outcomes-inTurn held =
+    outcomes-firstThree : (held : Reassembly) → outcomes held (firstThree source a b c r₁ r₂ r₃) ≡ firstThreeAnswers r₁ r₂ r₃
+    outcomes-firstThree held =
         outcomes-part held (One source a) _ refl r₁ _ ∙ ap (λ (l : List (Outcome R)). answered Incomplete ∷ (map own r₁ ++ l))
         (outcomes-part (AfterOne source a) (Two source b) _ (second-taken source a b) r₂ _ ∙ ap (λ (l : List (Outcome R)). answered Incomplete ∷ (map own r₂ ++ l))
         (ap (λ (t : Step). answered (t .answer) ∷ outcomes (t .next) (others r₃)) (third-taken source a b c)
         ∙ ap (λ (l : List (Outcome R)). answered Incomplete ∷ l) (outcomes-others _ r₃)))
 
-    heldAfter-inTurn : (held : Reassembly) → heldAfter held (inTurn source a b c r₁ r₂ r₃) ≡ AfterThree source a b c
-    heldAfter-inTurn held =
+    heldAfter-firstThree : (held : Reassembly) → heldAfter held (firstThree source a b c r₁ r₂ r₃) ≡ AfterThree source a b c
+    heldAfter-firstThree held =
         heldAfter-part held (One source a) _ refl r₁ _
         ∙ heldAfter-part (AfterOne source a) (Two source b) _ (second-taken source a b) r₂ _
         ∙ ap (λ (t : Step). heldAfter (t .next) (others r₃)) (third-taken source a b c) ∙ heldAfter-others _ r₃
 
-  -- Whatever is held at the start and whatever words come earlier and later: the four parts in turn from one source, with
+  -- Whatever is held at the start and whatever words come earlier and later: the four parts in sequence from one source, with
   -- other words anywhere between, give the group; every other word has its own answer; and nothing is held after part four.
   module _ (start : Reassembly) (earlier later : List (Input R)) (source a b c d : ℕ) (mark : Bool) (r₁ r₂ r₃ : List R) where
     pub group-completed :
-        outcomes start (earlier ++ (inTurn source a b c r₁ r₂ r₃ ++ (part (Four source d mark) ∷ later)))
-        ≡ outcomes start earlier ++ (inTurnAnswers r₁ r₂ r₃ ++ (answered (Complete (groupOf a b c d mark)) ∷ outcomes Empty later))
+        outcomes start (earlier ++ (firstThree source a b c r₁ r₂ r₃ ++ (part (Four source d mark) ∷ later)))
+        ≡ outcomes start earlier ++ (firstThreeAnswers r₁ r₂ r₃ ++ (answered (Complete (groupOf a b c d mark)) ∷ outcomes Empty later))
     group-completed =
         outcomes-append start earlier _ ∙ ap (λ (l : List (Outcome R)). outcomes start earlier ++ l)
-        (outcomes-append (heldAfter start earlier) (inTurn source a b c r₁ r₂ r₃) _
+        (outcomes-append (heldAfter start earlier) (firstThree source a b c r₁ r₂ r₃) _
         ∙ ap₂ (λ (l : List (Outcome R)) (h : Reassembly). l ++ outcomes h (part (Four source d mark) ∷ later))
-        (outcomes-inTurn source a b c r₁ r₂ r₃ (heldAfter start earlier)) (heldAfter-inTurn source a b c r₁ r₂ r₃ (heldAfter start earlier))
-        ∙ ap (λ (t : Step). inTurnAnswers r₁ r₂ r₃ ++ (answered (t .answer) ∷ outcomes (t .next) later)) (fourth-taken source a b c d mark))
+        (outcomes-firstThree source a b c r₁ r₂ r₃ (heldAfter start earlier)) (heldAfter-firstThree source a b c r₁ r₂ r₃ (heldAfter start earlier))
+        ∙ ap (λ (t : Step). firstThreeAnswers r₁ r₂ r₃ ++ (answered (t .answer) ∷ outcomes (t .next) later)) (fourth-taken source a b c d mark))
 
-    pub nothing-held : heldAfter start (earlier ++ (inTurn source a b c r₁ r₂ r₃ ++ (part (Four source d mark) ∷ later))) ≡ heldAfter Empty later
+    pub nothing-held : heldAfter start (earlier ++ (firstThree source a b c r₁ r₂ r₃ ++ (part (Four source d mark) ∷ later))) ≡ heldAfter Empty later
     nothing-held =
-        heldAfter-append start earlier _ ∙ heldAfter-append (heldAfter start earlier) (inTurn source a b c r₁ r₂ r₃) _
-        ∙ ap (λ (h : Reassembly). heldAfter h (part (Four source d mark) ∷ later)) (heldAfter-inTurn source a b c r₁ r₂ r₃ (heldAfter start earlier))
+        heldAfter-append start earlier _ ∙ heldAfter-append (heldAfter start earlier) (firstThree source a b c r₁ r₂ r₃) _
+        ∙ ap (λ (h : Reassembly). heldAfter h (part (Four source d mark) ∷ later)) (heldAfter-firstThree source a b c r₁ r₂ r₃ (heldAfter start earlier))
         ∙ ap (λ (t : Step). heldAfter (t .next) later) (fourth-taken source a b c d mark)
 
 -- The same for any words, and any rule that tells what each of them is.
 pub words-completed : {W R : Type 0} (classify : W → Input R) (words : List W)
     (start : Reassembly) (earlier later : List (Input R)) (source a b c d : ℕ) (mark : Bool) (r₁ r₂ r₃ : List R)
-    → map classify words ≡ earlier ++ (inTurn source a b c r₁ r₂ r₃ ++ (part (Four source d mark) ∷ later))
+    → map classify words ≡ earlier ++ (firstThree source a b c r₁ r₂ r₃ ++ (part (Four source d mark) ∷ later))
     → outcomes start (map classify words)
-    ≡ outcomes start earlier ++ (inTurnAnswers r₁ r₂ r₃ ++ (answered (Complete (groupOf a b c d mark)) ∷ outcomes Empty later))
+    ≡ outcomes start earlier ++ (firstThreeAnswers r₁ r₂ r₃ ++ (answered (Complete (groupOf a b c d mark)) ∷ outcomes Empty later))
 words-completed classify words start earlier later source a b c d mark r₁ r₂ r₃ e =
     ap (outcomes start) e ∙ group-completed start earlier later source a b c d mark r₁ r₂ r₃
 

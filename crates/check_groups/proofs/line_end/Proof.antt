@@ -3,8 +3,8 @@
 use Prim.Native.Nat.{_-_}
 use lib.ListN.{length}
 use borrow.Author.Needs.{needs}
-use Rattle.check_joins.proofs.line_end.Statement.{statement}
-use Rattle.check_joins.proofs.line_end.Tie as tie
+use Rattle.check_groups.proofs.line_end.Statement.{statement}
+use Rattle.check_groups.proofs.line_end.Tie as tie
 
 abbrev Inv-loop : tie.InvT-loop
 Inv-loop text from i₀ i = Unit {0}

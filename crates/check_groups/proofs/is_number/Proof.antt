@@ -1,8 +1,8 @@
 -- The place falls to `from`.
 -- Assumes nothing.
 use borrow.Author.Needs.{needs}
-use Rattle.check_joins.proofs.is_number.Statement.{statement}
-use Rattle.check_joins.proofs.is_number.Tie as tie
+use Rattle.check_groups.proofs.is_number.Statement.{statement}
+use Rattle.check_groups.proofs.is_number.Tie as tie
 
 abbrev Inv-loop : tie.InvT-loop
 Inv-loop line from end value rest₀ i₀ rest i = Unit {0}

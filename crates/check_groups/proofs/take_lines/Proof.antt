@@ -1,8 +1,8 @@
 -- The number of turns that are left falls.
 -- Assumes nothing.
 use borrow.Author.Needs.{needs}
-use Rattle.check_joins.proofs.take_lines.Statement.{statement}
-use Rattle.check_joins.proofs.take_lines.Tie as tie
+use Rattle.check_groups.proofs.take_lines.Statement.{statement}
+use Rattle.check_groups.proofs.take_lines.Tie as tie
 
 abbrev Inv-loop : tie.InvT-loop
 Inv-loop text progress₀ from₀ turns₀ progress from turns = Unit {0}
