@@ -9,6 +9,7 @@ use borrow.Author.Needs.{needs}
 use Rattle.check_words.proofs.is_written.Statement.{statement}
 use Rattle.check_words.proofs.is_written.Tie as tie
 
+-- what the call gives of the count
 digits : (c : tie.After-complement-16) → c .complement-16 .result ≡ complement 16 (c .before .args .count)
 digits c = c .complement-16 .ensures ∙ ap (complement 16) (toZ-ofZ (c .before .fits .count))
 

@@ -14,6 +14,7 @@ Inv-loop text base bad value₀ i₀ value i = i ≤ length text
 abbrev μ-loop : tie.MeasureT-loop
 μ-loop text base bad value₀ i₀ value i = length text - i
 
+-- at most 28 bits times the base
 product : (v b : ℕ) → v % 268435456 * b ≤ 268435455 * b
 product v b = mul-le-mul-right b (omega arith)
 

@@ -1,7 +1,6 @@
 -- A line has at least its own place, so there are at most as many lines as bytes; what is left of the text falls.
 -- Assumes nothing.
 use Prim.Native.Nat.{_≤_, _-_}
-use native.Mathlib.Omega.{arith}
 use lib.ListN.{length}
 use borrow.Author.Needs.{needs}
 use Rattle.check_words.proofs.tally_of.Statement.{statement}
