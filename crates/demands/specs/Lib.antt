@@ -5,4 +5,5 @@ pub mod Tests
 pub mod Judgement
 pub mod Writing
 pub mod Words
+pub mod Figures
 pub mod Starred

@@ -1,54 +1,111 @@
--- Document 01's starred lines that are words, each with its record or its refusal: one table, proved by one computed equation.
+-- Document 01's starred lines, words and figures, each with its record, its count or its refusal: one table, proved by one computed equation.
 -- Assumes nothing.
 use mathlib.Core.Path.{_≡_, refl}
 use mathlib.Core.Bool.{true, false}
 use mathlib.Core.List.{List, [], _∷_, map}
 use Prim.Native.Nat.{ℕ}
 use lib.Count.{onesIn}
-use lib.IntN.{ℤ, pos, negsuc}
+use lib.IntN.{ℤ, pos, negℤ}
+use Rattle.rounding.specs.Rounding.{roundEven}
+use Rattle.records.specs.Numbers.{numberOf}
 use Rattle.records.specs.declared.Body.{Body}
 use Rattle.records.specs.declared.Marker.{Marker}
-use Rattle.records.specs.declared.Refusal.{Refusal}
+use Rattle.records.specs.declared.Record.{Record}
 use Rattle.records.specs.declared.Status.{Status}
+use Rattle.labels.specs.Assignment.{document01}
 use Rattle.labels.specs.Table.{rowOf}
 use Rattle.decode.specs.Decode.{decodeOf}
 use Rattle.decode.specs.declared.Decoded.{Decoded}
+use Rattle.encode.specs.declared.Encoded.{Encoded}
+use Rattle.quantities.specs.Nearest.{lineNearest, wrap, circleNearest, nearestCount, millionthsOf}
+use Rattle.figures.specs.declared.Measurement.{Measurement}
+use Rattle.figures.specs.Coding.{codedOf}
+use Rattle.figures.specs.Agreement.{measuredIn}
+
+-- What is asked: what a word holds, what figure is printed for its count, or how a figure in millionths is coded under a label and source 0.
+pub data Asked : Type 0 where
+  word : ℕ → Asked
+  print : ℕ → Asked
+  figure : ℕ → ℤ → Asked
+
+-- What is answered: a record, the count in the coded word, a number of millionths, or the number of a refusal.
+pub data Answer : Type 0 where
+  holds : Record → Answer
+  count : ℤ → Answer
+  prints : ℤ → Answer
+  refused : ℕ → Answer
+  nothing : Answer
 
 pub record Line : Type 0 where
-  pub word : ℕ
-  pub answer : Decoded
+  pub asked : Asked
+  pub answer : Answer
 
--- accepted from source 0
-abbrev holds : ℕ → Body → Line
-holds w b = record { word = w; answer = Decoded.Accepted (record { source = 0; body = b }) }
+abbrev _gives_ : Asked → Answer → Line
+_gives_ a b = record { asked = a; answer = b }
 
-abbrev refused : ℕ → Refusal → Line
-refused w f = record { word = w; answer = Decoded.Refused f }
+infix 30 _gives_
+-- a record of source 0
+abbrev of : Body → Answer
+of b = holds (record { source = 0; body = b })
 
 abbrev pub starred : List Line
 starred =
-    -- 222, ready, +90 degrees: 2048 x 45 / 1024
-    holds 0xE8000049 (Body.VorAzimuth Status.Ready Marker.None (record { 0 = pos 2048 }))
-    -- -45 degrees
-    ∷ holds 0xFC000049 (Body.VorAzimuth Status.Ready Marker.None (record { 0 = negsuc 1023 }))
-    -- course +0.1: 1024 / 10240
-    ∷ holds 0x640000DE (Body.IlsCourse Status.Ready false (record { 0 = pos 1024 }))
-    -- course, count -1
-    ∷ holds 0x7FFF00DE (Body.IlsCourse Status.Ready false (record { 0 = negsuc 0 }))
-    -- VOR 113.20 MHz
-    ∷ holds 0x04C80038 (Body.VorFrequency Status.Ready 11320)
-    -- MLS 5090.70 MHz
-    ∷ holds 0x841C0078 (Body.MlsFrequency Status.Ready 509070)
+    -- 222, ready, +90 degrees: 2048 x 45 / 1024; then -45
+    (word 0xE8000049 gives of (Body.VorAzimuth Status.Ready Marker.None (record { 0 = pos 2048 })))
+    ∷ (word 0xFC000049 gives of (Body.VorAzimuth Status.Ready Marker.None (record { 0 = negℤ (pos 1024) })))
+    -- course +0.1: 1024 / 10240; then count -1, which prints -0.000098
+    ∷ (word 0x640000DE gives of (Body.IlsCourse Status.Ready false (record { 0 = pos 1024 })))
+    ∷ (word 0x7FFF00DE gives of (Body.IlsCourse Status.Ready false (record { 0 = negℤ (pos 1) })))
+    ∷ (print 0x7FFF00DE gives prints (negℤ (pos 98)))
+    -- VOR 113.20 MHz, MLS 5090.70 MHz
+    ∷ (word 0x04C80038 gives of (Body.VorFrequency Status.Ready 11320))
+    ∷ (word 0x841C0078 gives of (Body.MlsFrequency Status.Ready 509070))
     -- selected azimuth, manual, 359 degrees; then 360
-    ∷ holds 0xEB3C00D6 (Body.SelectedAzimuth Status.Ready true 359)
-    ∷ refused 0xEB4400D6 Refusal.Value
+    ∷ (word 0xEB3C00D6 gives of (Body.SelectedAzimuth Status.Ready true 359))
+    ∷ (word 0xEB4400D6 gives refused 6)
     -- greatest glide angle 4.0 degrees; then with a wrong bit 28
-    ∷ holds 0x69400036 (Body.GreatestGlideAngle Status.Ready 40)
-    ∷ refused 0xE1400036 Refusal.AngleParity
+    ∷ (word 0x69400036 gives of (Body.GreatestGlideAngle Status.Ready 40))
+    ∷ (word 0xE1400036 gives refused 7)
     -- the first word with bit 1 lost
-    ∷ refused 0xE8000048 Refusal.Parity
+    ∷ (word 0xE8000048 gives refused 1)
+    -- MLS 36600 gives count 0, 109800 gives 2; 2398581000 is coded, 2398581001 refused
+    ∷ (figure 0o151 (pos 36600) gives count (pos 0))
+    ∷ (figure 0o151 (pos 109800) gives count (pos 2))
+    ∷ (figure 0o151 (pos 2398581000) gives count (pos 32767))
+    ∷ (figure 0o151 (pos 2398581001) gives refused 8)
+    ∷ (figure 0o152 (pos 36600) gives count (pos 0))
+    ∷ (figure 0o152 (pos 109800) gives count (pos 2))
+    ∷ (figure 0o152 (pos 2398581000) gives count (pos 32767))
+    ∷ (figure 0o152 (pos 2398581001) gives refused 8)
+    -- azimuth 179.98 and 180 give -4096; 315 gives -1024; 360 is refused 8
+    ∷ (figure 0o222 (pos 179980000) gives count (negℤ (pos 4096)))
+    ∷ (figure 0o222 (pos 180000000) gives count (negℤ (pos 4096)))
+    ∷ (figure 0o222 (pos 315000000) gives count (negℤ (pos 1024)))
+    ∷ (figure 0o222 (pos 360000000) gives refused 8)
     ∷ []
 
-pub starred-lines : map (λ l. decodeOf (l .word)) starred ≡ map (λ l. l .answer) starred
-unfolding onesIn rowOf
+abbrev decoded : Decoded → Answer
+decoded (Decoded.Accepted r) = holds r
+decoded (Decoded.Refused f) = refused (numberOf f)
+
+abbrev counted : Measurement → Answer
+counted (Measurement.Count q c) = count c
+counted Measurement.Nothing = nothing
+
+abbrev printed : Measurement → Answer
+printed (Measurement.Count q c) = prints (millionthsOf q c)
+printed Measurement.Nothing = nothing
+
+abbrev coded : Encoded → Answer
+coded (Encoded.Word w) = counted (measuredIn document01 w)
+coded (Encoded.Refused f) = refused (numberOf f)
+
+-- what decoding, printing and coding give
+abbrev pub answerOf : Asked → Answer
+answerOf (word w) = decoded (decodeOf w)
+answerOf (print w) = printed (measuredIn document01 w)
+answerOf (figure label f) = coded (codedOf label 0 f)
+
+pub starred-lines : map (λ l. answerOf (l .asked)) starred ≡ map (λ l. l .answer) starred
+unfolding onesIn rowOf nearestCount millionthsOf lineNearest circleNearest wrap roundEven
 starred-lines = refl

@@ -1,0 +1,7 @@
+pub mod Coding
+pub mod Agreement
+pub mod Demand
+pub mod Words
+pub mod Agreeing
+pub mod Theorems
+pub mod Five

@@ -1,0 +1,111 @@
+-- Demand 3 is met, and a count is printed as its nearest millionth, a tie to the even one.
+-- Assumes nothing.
+use mathlib.Core.Path.{_≡_, refl, sym, ap, subst, _∙_}
+use mathlib.Core.Logic.{_⊎_, _↔_, inl, inr}
+use Prim.Native.Nat.{ℕ, _≤_}
+use native.Mathlib.Omega.{arith}
+use lib.IntN.{ℤ}
+use Rattle.records.specs.declared.Refusal.{Refusal}
+use Rattle.labels.specs.Assignment.{Assignment, document01}
+use Rattle.encode.specs.Encode.{wordOf}
+use Rattle.encode.specs.declared.Encoded.{Encoded}
+use Rattle.quantities.specs.Scale.{scaleOf}
+use Rattle.quantities.specs.Nearest.{nearestCount, millionthsOf}
+use Rattle.quantities.specs.Statements.{Legal, Beyond, Coded, Printed}
+use Rattle.quantities.specs.Theorems as Quantities
+use Rattle.quantities.specs.declared.Nearest.{Nearest}
+use Rattle.quantities.specs.declared.Quantity.{Quantity}
+use Rattle.figures.specs.declared.Measured.{Measured}
+use Rattle.figures.specs.Coding.{labelFor, readyRecord, codedNearest, codedMeasured, codedWith, codedOf}
+use Rattle.figures.specs.Demand.{countBits, ReadyWord, Demand3, Order}
+use Rattle.figures.specs.Words.{quantity-of-label, unmeasured, ready-count, ready-word, illegal-source, coded-nearest}
+
+module _ (a : Assignment) where
+  refused-reach : (q : Quantity) (source : ℕ) (n : Nearest) → (codedNearest a q source n ≡ Encoded.Refused Refusal.Reach) ↔ (n ≡ Nearest.OutOfReach)
+  refused-reach q source (Nearest.Count c) =
+      (λ e. absurd (let z : _≡_ {A = ℕ} 0 1 = cc in omega arith), λ e. absurd (let z : _≡_ {A = ℕ} 0 1 = cc in omega arith))
+  refused-reach q source Nearest.OutOfReach = (λ e. refl, λ e. refl)
+
+  -- a figure is refused 8 exactly when it is out of reach
+  refused : (q : Quantity) (source : ℕ) → source ≤ 3 → (figure : ℤ) → (codedWith a (labelFor a q) source figure ≡ Encoded.Refused Refusal.Reach) ↔ Beyond q figure
+  refused q source s figure = (
+    λ e. Quantities.refused q figure .0 (refused-reach q source (nearestCount q figure) .0 (sym (coded-nearest a q source figure s) ∙ e)),
+    λ h. coded-nearest a q source figure s ∙ refused-reach q source (nearestCount q figure) .1 (Quantities.refused q figure .1 h),
+  )
+
+  -- under a legal source the nearest count is coded
+  given : (q : Quantity) (source : ℕ) → source ≤ 3 → (figure c : ℤ) → nearestCount q figure ≡ Nearest.Count c
+      → (w : ℕ) × (codedWith a (labelFor a q) source figure ≡ Encoded.Word w) × ReadyWord a q source w × (countBits q w ≡ c)
+  given q source s figure c e =
+      let l : Legal (scaleOf q) c = Quantities.coded q figure c e .legal in (
+        wordOf a (readyRecord q source c),
+        coded-nearest a q source figure s ∙ ap (codedNearest a q source) e,
+        ready-word a q source c s l,
+        ready-count a q source c s l,
+      )
+
+  answered : (q : Quantity) (source : ℕ) → source ≤ 3 → (figure : ℤ)
+      → (codedWith a (labelFor a q) source figure ≡ Encoded.Refused Refusal.Reach)
+      ⊎ ((w : ℕ) × (codedWith a (labelFor a q) source figure ≡ Encoded.Word w) × ReadyWord a q source w)
+  answered q source s figure = go (nearestCount q figure) refl
+    where
+      go : (n : Nearest) → nearestCount q figure ≡ n
+          → (codedWith a (labelFor a q) source figure ≡ Encoded.Refused Refusal.Reach)
+          ⊎ ((w : ℕ) × (codedWith a (labelFor a q) source figure ≡ Encoded.Word w) × ReadyWord a q source w)
+      go (Nearest.Count c) e = let g = given q source s figure c e in inr (g .0, g .1, g .2)
+      go Nearest.OutOfReach e = inl (coded-nearest a q source figure s ∙ ap (codedNearest a q source) e)
+
+  -- and the count bits of the word hold the nearest count
+  nearest : (q : Quantity) (source : ℕ) → source ≤ 3 → (figure : ℤ) (w : ℕ) → codedWith a (labelFor a q) source figure ≡ Encoded.Word w
+      → Coded q figure (countBits q w)
+  nearest q source s figure w e = go (nearestCount q figure) refl
+    where
+      go : (n : Nearest) → nearestCount q figure ≡ n → Coded q figure (countBits q w)
+      go (Nearest.Count c) n =
+          let g = given q source s figure c n in
+          let same : Encoded.Word (g .0) ≡ Encoded.Word w = sym (g .1) ∙ e in
+          let word : g .0 ≡ w = cc in
+          subst (Coded q figure) (sym (g .3) ∙ ap (countBits q) word) (Quantities.coded q figure c n)
+      go Nearest.OutOfReach n =
+          let clash : Encoded.Refused Refusal.Reach ≡ Encoded.Word w = sym (coded-nearest a q source figure s ∙ ap (codedNearest a q source) n) ∙ e in
+          absurd (let z : _≡_ {A = ℕ} 0 1 = cc in omega arith)
+
+  -- demand 3, under every assignment of labels
+  pub demand3 : Demand3 a (codedWith a) millionthsOf
+  demand3 =
+      record {
+        deviation-refused = λ q line source s figure. rw line at (refused q source s figure);
+        azimuth-refused = λ source s figure. refused Quantity.Azimuth source s figure;
+        rest-coded = answered;
+        legal = λ q source s figure w e. nearest q source s figure w e .legal;
+        none-nearer = λ q source s figure w e. nearest q source s figure w e .nearest;
+        even-if-tied = λ q source s figure w e. nearest q source s figure w e .even;
+        distance = Quantities.away;
+        one-distance = Quantities.away-once;
+        codes-back = λ q c l source s. let g = given q source s (millionthsOf q c) c (Quantities.codes-back q c l) in (g .0, g .1, g .3);
+      }
+
+  -- and the refusals before 8
+  pub order : Order a (codedWith a)
+  order =
+      record {
+        label-first = λ label other source figure. ap (λ (m : Measured). codedMeasured a m source figure) (unmeasured a label other);
+        source-second = λ q source s figure.
+            ap (λ (m : Measured). codedMeasured a m source figure) (quantity-of-label a q) ∙ illegal-source a q source figure s;
+      }
+
+-- and so under document 01's
+pub demand3-of : Demand3 document01 codedOf millionthsOf
+demand3-of = demand3 document01
+
+pub order-of : Order document01 codedOf
+order-of = order document01
+
+-- a count is printed as the nearest whole number of millionths to its value, a tie to the even one
+pub printed : (q : Quantity) (c : ℤ) → Printed q c (millionthsOf q c)
+printed = Quantities.printed
+
+-- both MLS deviations are printed alike
+pub mls-alike : (c : ℤ) → millionthsOf Quantity.MlsGlide c ≡ millionthsOf Quantity.MlsAzimuth c
+unfolding millionthsOf
+mls-alike c = refl

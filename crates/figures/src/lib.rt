@@ -1,0 +1,278 @@
+// Figures: a figure coded to a word, a count printed as a figure, and whether a figure agrees with a word.
+use decode::Decoded;
+use encode::Encoded;
+use labels::Lookup;
+use quantities::Nearest;
+use quantities::Quantity;
+use records::AzimuthCount;
+use records::Body;
+use records::CourseCount;
+use records::GlideCount;
+use records::Kind;
+use records::Marker;
+use records::MlsCount;
+use records::Record;
+use records::Refusal;
+use records::Status;
+ghost use mathlib.Core.Path.{_≡_};
+ghost use lib.IntN.{ℤ};
+ghost use Prim.Native.Nat.{_≤_};
+ghost use Rattle.labels.specs.Assignment.{document01};
+ghost use Rattle.quantities.specs.Nearest.{millionthsOf};
+ghost use Rattle.quantities.specs.Statements.{Legal};
+ghost use Rattle.quantities.specs.Scale.{scaleOf};
+ghost use Rattle.encode.specs.Encode.{wordOf};
+ghost use Rattle.figures.specs.Coding.{quantityOf, quantityAt, readyBody, readyRecord, codedQuantity, codedOf};
+ghost use Rattle.figures.specs.Agreement.{measurementOf, isNearest, isMeasured, agreesOf};
+
+// The measured quantity of a kind of word, or none.
+pub enum Measured {
+    As(Quantity),
+    Nothing,
+}
+
+// The quantity and the count that a word holds, or none.
+pub enum Measurement {
+    Count(Quantity, i16),
+    Nothing,
+}
+
+// The quantity that words of a kind measure.
+fn quantity_of(kind: Kind) -> Measured
+    ensures { λ r. ⌜ r ≡ quantityOf kind ⌝ }
+{
+    match kind {
+        Kind::VorAzimuth => Measured::As(Quantity::Azimuth),
+        Kind::VorFrequency => Measured::Nothing,
+        Kind::IlsCourse => Measured::As(Quantity::Course),
+        Kind::IlsGlide => Measured::As(Quantity::Glide),
+        Kind::IlsFrequency => Measured::Nothing,
+        Kind::MlsFrequency => Measured::Nothing,
+        Kind::MlsAzimuthDeviation => Measured::As(Quantity::MlsAzimuth),
+        Kind::MlsGlideDeviation => Measured::As(Quantity::MlsGlide),
+        Kind::SelectedAzimuth => Measured::Nothing,
+        Kind::GreatestGlideAngle => Measured::Nothing,
+        Kind::SelectedGlideAngle => Measured::Nothing,
+        Kind::Part1 => Measured::Nothing,
+        Kind::Part2 => Measured::Nothing,
+        Kind::Part3 => Measured::Nothing,
+        Kind::Part4 => Measured::Nothing,
+    }
+}
+
+// The quantity that words of a label measure. A label above 255 is none.
+fn find_quantity(label: u64) -> Measured
+    ensures { λ r. ⌜ r ≡ quantityAt document01 label ⌝ }
+{
+    if 255 < label {
+        return Measured::Nothing;
+    }
+    match labels::find_kind(label as u32) {
+        Lookup::Known(kind) => quantity_of(kind),
+        Lookup::Unknown => Measured::Nothing,
+    }
+}
+
+// The body of a ready word of this count, every other field zero.
+fn ready_body(quantity: Quantity, count: i16) -> Body
+    ensures { λ r. ⌜ r ≡ readyBody quantity count ⌝ }
+{
+    match quantity {
+        Quantity::Azimuth => Body::VorAzimuth {
+            status: Status::Ready,
+            marker: Marker::None,
+            count: AzimuthCount(count),
+        },
+        Quantity::Course => Body::IlsCourse {
+            status: Status::Ready,
+            inhibit: false,
+            count: CourseCount(count),
+        },
+        Quantity::Glide => Body::IlsGlide {
+            status: Status::Ready,
+            inhibit: false,
+            count: GlideCount(count),
+        },
+        Quantity::MlsAzimuth => Body::MlsAzimuthDeviation {
+            status: Status::Ready,
+            inhibit: false,
+            clearance: false,
+            count: MlsCount(count),
+        },
+        Quantity::MlsGlide => Body::MlsGlideDeviation {
+            status: Status::Ready,
+            inhibit: false,
+            clearance: false,
+            count: MlsCount(count),
+        },
+    }
+}
+
+// The ready word of a legal count.
+fn ready_word(quantity: Quantity, source: u8, count: i16) -> Encoded
+    requires { ⌜ (source ≤ 3) × Legal (scaleOf quantity) count ⌝ }
+    ensures { λ r. ⌜ r ≡ Encoded.Word (wordOf document01 (readyRecord quantity source count)) ⌝ }
+{
+    encode::encode(Record {
+        source: source,
+        body: ready_body(quantity, count),
+    })
+}
+
+// A figure of a quantity.
+fn code_quantity(quantity: Quantity, source: u64, millionths: i64) -> Encoded
+    ensures { λ r. ⌜ r ≡ codedQuantity document01 quantity source millionths ⌝ }
+{
+    if 3 < source {
+        return Encoded::Refused(Refusal::Code);
+    }
+    match quantities::nearest_count(quantity, millionths) {
+        Nearest::Count(count) => ready_word(quantity, source as u8, count),
+        Nearest::OutOfReach => Encoded::Refused(Refusal::Reach),
+    }
+}
+
+// The word that a figure in millionths is coded to, under a label and a source, or its refusal.
+pub fn code_figure(label: u64, source: u64, millionths: i64) -> Encoded
+    ensures { λ r. ⌜ r ≡ codedOf label source millionths ⌝ }
+{
+    match find_quantity(label) {
+        Measured::As(quantity) => code_quantity(quantity, source, millionths),
+        Measured::Nothing => Encoded::Refused(Refusal::Label),
+    }
+}
+
+// An azimuth count as a figure, in millionths of a degree.
+pub fn azimuth_millionths(count: AzimuthCount) -> i64
+    ensures { λ r. ⌜ r ≡ millionthsOf Quantity.Azimuth (count .0) ⌝ }
+{
+    quantities::millionths(Quantity::Azimuth, count.0)
+}
+
+// A course count as a figure, in millionths of modulation depth difference.
+pub fn course_millionths(count: CourseCount) -> i64
+    ensures { λ r. ⌜ r ≡ millionthsOf Quantity.Course (count .0) ⌝ }
+{
+    quantities::millionths(Quantity::Course, count.0)
+}
+
+// A glide count as a figure, in millionths of modulation depth difference.
+pub fn glide_millionths(count: GlideCount) -> i64
+    ensures { λ r. ⌜ r ≡ millionthsOf Quantity.Glide (count .0) ⌝ }
+{
+    quantities::millionths(Quantity::Glide, count.0)
+}
+
+// A count of either MLS deviation as a figure, in millionths of a millivolt.
+pub fn mls_millionths(count: MlsCount) -> i64
+    ensures { λ r. ⌜ r ≡ millionthsOf Quantity.MlsAzimuth (count .0) ⌝ }
+{
+    quantities::millionths(Quantity::MlsAzimuth, count.0)
+}
+
+// The quantity and the count in a body.
+fn measurement_of(body: Body) -> Measurement
+    ensures { λ r. ⌜ r ≡ measurementOf body ⌝ }
+{
+    match body {
+        Body::VorAzimuth {
+            status: _,
+            marker: _,
+            count,
+        } => Measurement::Count(Quantity::Azimuth, count.0),
+        Body::VorFrequency {
+            status: _,
+            frequency: _,
+        } => Measurement::Nothing,
+        Body::IlsCourse {
+            status: _,
+            inhibit: _,
+            count,
+        } => Measurement::Count(Quantity::Course, count.0),
+        Body::IlsGlide {
+            status: _,
+            inhibit: _,
+            count,
+        } => Measurement::Count(Quantity::Glide, count.0),
+        Body::IlsFrequency {
+            status: _,
+            category: _,
+            frequency: _,
+        } => Measurement::Nothing,
+        Body::MlsFrequency {
+            status: _,
+            frequency: _,
+        } => Measurement::Nothing,
+        Body::MlsAzimuthDeviation {
+            status: _,
+            inhibit: _,
+            clearance: _,
+            count,
+        } => Measurement::Count(Quantity::MlsAzimuth, count.0),
+        Body::MlsGlideDeviation {
+            status: _,
+            inhibit: _,
+            clearance: _,
+            count,
+        } => Measurement::Count(Quantity::MlsGlide, count.0),
+        Body::SelectedAzimuth {
+            status: _,
+            manual: _,
+            degrees: _,
+        } => Measurement::Nothing,
+        Body::GreatestGlideAngle {
+            status: _,
+            tenths: _,
+        } => Measurement::Nothing,
+        Body::SelectedGlideAngle {
+            status: _,
+            manual: _,
+            tenths: _,
+        } => Measurement::Nothing,
+        Body::Part1 {
+            word_number: _,
+            content: _,
+        } => Measurement::Nothing,
+        Body::Part2 { content: _ } => Measurement::Nothing,
+        Body::Part3 { content: _ } => Measurement::Nothing,
+        Body::Part4 {
+            parity_good: _,
+            content: _,
+        } => Measurement::Nothing,
+    }
+}
+
+// Whether a count is the nearest one.
+fn is_nearest(nearest: Nearest, count: i16) -> bool
+    ensures { λ r. ⌜ r ≡ isNearest nearest count ⌝ }
+{
+    match nearest {
+        Nearest::Count(other) => count == other,
+        Nearest::OutOfReach => false,
+    }
+}
+
+// Whether a figure's nearest count is the measured one.
+fn is_measured(measurement: Measurement, millionths: i64) -> bool
+    ensures { λ r. ⌜ r ≡ isMeasured measurement millionths ⌝ }
+{
+    match measurement {
+        Measurement::Count(quantity, count) => {
+            is_nearest(quantities::nearest_count(quantity, millionths), count)
+        }
+        Measurement::Nothing => false,
+    }
+}
+
+// Whether a figure in millionths agrees with a word: it is coded, under the word's label and source, to the word's count.
+pub fn agrees(word: u32, millionths: i64) -> bool
+    ensures { λ r. ⌜ r ≡ agreesOf word millionths ⌝ }
+{
+    match decode::decode(word) {
+        Decoded::Accepted(record) => {
+            let body = record.body;
+            is_measured(measurement_of(body), millionths)
+        }
+        Decoded::Refused(_) => false,
+    }
+}

@@ -1,0 +1,9 @@
+pub mod Cases
+pub mod Circle
+pub mod Examples
+pub mod Line
+pub mod Nearest
+pub mod Scale
+pub mod Sides
+pub mod Statements
+pub mod Theorems
