@@ -11,7 +11,7 @@ use Rattle.check_words.proofs.is_written.Tie as tie
 
 -- what the call gives of the count
 digits : (c : tie.After-complement-16) → c .complement-16 .result ≡ complement 16 (c .before .args .count)
-digits c = c .complement-16 .ensures ∙ ap (complement 16) (toZ-ofZ (c .before .fits .count))
+digits c = c .complement-16 .ensures .0 ∙ ap (complement 16) (toZ-ofZ (c .before .fits .count))
 
 complement-16-requires : tie.Need-complement-16-requires
 complement-16-requires c κs = search needs
