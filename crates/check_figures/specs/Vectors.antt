@@ -1,7 +1,6 @@
 -- What a line of the test vectors says of a figure: the number of its refusal, or 0 and the word that it is coded to.
 -- Assumes nothing.
-use mathlib.Core.Bool.{Bool, true, false, _&&_}
-use Prim.Native.Nat.{ℕ}
+use mathlib.Core.Bool.{Bool, _&&_}
 use lib.Dec.{eqb}
 use lib.IntN.{ℤ}
 use Rattle.records.specs.Numbers.{numberOf}

@@ -1,8 +1,8 @@
 -- A figure agrees with a word exactly when the word's count is the one nearest to it: decoding gives back the count that was coded.
 -- Assumes nothing.
-use mathlib.Core.Path.{_≡_, refl, sym, ap, ap₂, subst, _∙_}
+use mathlib.Core.Path.{_≡_, refl, sym, ap, ap₂, _∙_}
 use mathlib.Core.Logic.{_↔_}
-use mathlib.Core.Bool.{Bool, true, false}
+use mathlib.Core.Bool.{true, false}
 use Prim.Native.Nat.{ℕ, _≤_}
 use native.Mathlib.Omega.{arith}
 use borrow.Author.Tests.{eqb-true, eq-eqb}
@@ -64,10 +64,10 @@ module _ (a : Assignment) (figure : ℤ) where
   pub agrees-tested : (w : ℕ) → agreesWith a w figure ≡ isMeasured (measuredIn a w) figure
   agrees-tested w = go (decodeWith a w) refl
     where
-      coding : Encoded
-      coding = codedWith a (labelOf w) (bits 9 10 w) figure
+      coding : Measurement
+      coding = measuredBy a (codedWith a (labelOf w) (bits 9 10 w) figure)
 
-      go : (d : Decoded) → decodeWith a w ≡ d → sameCount (measuredIn a w) (measuredBy a (codedWith a (labelOf w) (bits 9 10 w) figure)) ≡ isMeasured (measuredIn a w) figure
+      go : (d : Decoded) → decodeWith a w ≡ d → sameCount (measuredIn a w) coding ≡ isMeasured (measuredIn a w) figure
       go (Decoded.Accepted r) e =
           let x = accepted a w r e in
           let k = x .0 in
@@ -78,7 +78,7 @@ module _ (a : Assignment) (figure : ℤ) where
           ∙ by-quantity (quantityOf k) w
           ∙ ap (λ (u : Measurement). isMeasured u figure) (sym m)
       go (Decoded.Refused f) e =
-          ap (λ (u : Measurement). sameCount u (measuredBy a (codedWith a (labelOf w) (bits 9 10 w) figure))) (ap measured e)
+          ap (λ (u : Measurement). sameCount u coding) (ap measured e)
           ∙ ap (λ (u : Measurement). isMeasured u figure) (sym (ap measured e))
 
   -- a figure agrees with a word exactly when the word holds a count, and that is the nearest to the figure

@@ -1,7 +1,7 @@
 -- Agreement: a figure agrees with a word when it is coded, under that word's label and source, to the word's count. With a refused or
 -- unmeasured word none agrees. Stated over any assignment of labels.
 -- Assumes nothing.
-use mathlib.Core.Bool.{Bool, true, false}
+use mathlib.Core.Bool.{Bool, false}
 use Prim.Native.Nat.{ℕ}
 use lib.Dec.{eqb}
 use lib.IntN.{ℤ, pos, negsuc}

@@ -1,6 +1,6 @@
 -- Coding a figure: the refusals in the order 2, 4, 8, or the ready word of the nearest count. Stated over any assignment of labels.
 -- Assumes nothing.
-use mathlib.Core.Bool.{Bool, true, false, cond}
+use mathlib.Core.Bool.{false, cond}
 use Prim.Native.Nat.{ℕ}
 use lib.Dec.{leb}
 use lib.IntN.{ℤ}

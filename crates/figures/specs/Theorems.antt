@@ -2,6 +2,7 @@
 -- Assumes nothing.
 use mathlib.Core.Path.{_≡_, refl, sym, ap, subst, _∙_}
 use mathlib.Core.Logic.{_⊎_, _↔_, inl, inr}
+use mathlib.Core.Bool.{true}
 use Prim.Native.Nat.{ℕ, _≤_}
 use native.Mathlib.Omega.{arith}
 use lib.IntN.{ℤ}
@@ -18,7 +19,9 @@ use Rattle.quantities.specs.declared.Quantity.{Quantity}
 use Rattle.figures.specs.declared.Measured.{Measured}
 use Rattle.figures.specs.Coding.{labelFor, readyRecord, codedNearest, codedMeasured, codedWith, codedOf}
 use Rattle.figures.specs.Demand.{countBits, ReadyWord, Demand3, Order}
-use Rattle.figures.specs.Words.{quantity-of-label, unmeasured, ready-count, ready-word, illegal-source, coded-nearest}
+use Rattle.figures.specs.Agreement.{measured, agreesWith}
+use Rattle.figures.specs.Agreeing.{agrees-exactly}
+use Rattle.figures.specs.Words.{quantity-of-label, ready-measurement, unmeasured, ready-count, ready-word, illegal-source, coded-nearest}
 
 module _ (a : Assignment) where
   refused-reach : (q : Quantity) (source : ℕ) (n : Nearest) → (codedNearest a q source n ≡ Encoded.Refused Refusal.Reach) ↔ (n ≡ Nearest.OutOfReach)
@@ -55,20 +58,24 @@ module _ (a : Assignment) where
       go (Nearest.Count c) e = let g = given q source s figure c e in inr (g .0, g .1, g .2)
       go Nearest.OutOfReach e = inl (coded-nearest a q source figure s ∙ ap (codedNearest a q source) e)
 
-  -- and the count bits of the word hold the nearest count
-  nearest : (q : Quantity) (source : ℕ) → source ≤ 3 → (figure : ℤ) (w : ℕ) → codedWith a (labelFor a q) source figure ≡ Encoded.Word w
-      → Coded q figure (countBits q w)
-  nearest q source s figure w e = go (nearestCount q figure) refl
+  -- and a word that coding gives is that of the nearest count, which its count bits hold
+  word-given : (q : Quantity) (source : ℕ) → source ≤ 3 → (figure : ℤ) (w : ℕ) → codedWith a (labelFor a q) source figure ≡ Encoded.Word w
+      → ReadyWord a q source w × (nearestCount q figure ≡ Nearest.Count (countBits q w))
+  word-given q source s figure w e = go (nearestCount q figure) refl
     where
-      go : (n : Nearest) → nearestCount q figure ≡ n → Coded q figure (countBits q w)
+      go : (n : Nearest) → nearestCount q figure ≡ n → ReadyWord a q source w × (n ≡ Nearest.Count (countBits q w))
       go (Nearest.Count c) n =
           let g = given q source s figure c n in
           let same : Encoded.Word (g .0) ≡ Encoded.Word w = sym (g .1) ∙ e in
           let word : g .0 ≡ w = cc in
-          subst (Coded q figure) (sym (g .3) ∙ ap (countBits q) word) (Quantities.coded q figure c n)
+          (subst (ReadyWord a q source) word (g .2), ap Nearest.Count (sym (g .3) ∙ ap (countBits q) word))
       go Nearest.OutOfReach n =
           let clash : Encoded.Refused Refusal.Reach ≡ Encoded.Word w = sym (coded-nearest a q source figure s ∙ ap (codedNearest a q source) n) ∙ e in
           absurd (let z : _≡_ {A = ℕ} 0 1 = cc in omega arith)
+
+  nearest : (q : Quantity) (source : ℕ) → source ≤ 3 → (figure : ℤ) (w : ℕ) → codedWith a (labelFor a q) source figure ≡ Encoded.Word w
+      → Coded q figure (countBits q w)
+  nearest q source s figure w e = Quantities.coded q figure (countBits q w) (word-given q source s figure w e .1)
 
   -- demand 3, under every assignment of labels
   pub demand3 : Demand3 a (codedWith a) millionthsOf
@@ -93,6 +100,13 @@ module _ (a : Assignment) where
         source-second = λ q source s figure.
             ap (λ (m : Measured). codedMeasured a m source figure) (quantity-of-label a q) ∙ illegal-source a q source figure s;
       }
+
+  -- a figure agrees with the word that it is coded to
+  pub coded-agrees : (q : Quantity) (source : ℕ) → source ≤ 3 → (figure : ℤ) (w : ℕ) → codedWith a (labelFor a q) source figure ≡ Encoded.Word w
+      → agreesWith a w figure ≡ true
+  coded-agrees q source s figure w e =
+      let g = word-given q source s figure w e in
+      agrees-exactly a figure w .1 (q, countBits q w, ap measured (g .0 .accepted) ∙ ready-measurement q (countBits q w), g .1)
 
 -- and so under document 01's
 pub demand3-of : Demand3 document01 codedOf millionthsOf

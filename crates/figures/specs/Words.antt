@@ -1,24 +1,23 @@
 -- The word that a figure is coded to: under the label of a quantity and a legal source it is the word of the nearest count, which
 -- decoding gives back.
 -- Assumes nothing.
-use mathlib.Core.Path.{_≡_, refl, sym, ap, subst, _∙_}
-use mathlib.Core.Bool.{Bool, true, false, _&&_}
+use mathlib.Core.Path.{_≡_, refl, sym, ap, _∙_}
+use mathlib.Core.Bool.{Bool, true, _&&_}
 use mathlib.Core.Logic.{_≢_, _⊎_, inl, inr}
 use Prim.Native.Nat.{ℕ, suc, _≤_, _<_, _^_}
 use native.Mathlib.Omega.{arith}
 use borrow.Author.Tests.{lt-ltb, le-leb, lt-leb}
 use lib.Dec.{leb, leb→le}
-use lib.IntN.{ℤ, pos, negsuc, negℤ}
+use lib.IntN.{ℤ, pos, negsuc}
 use lib.Signed.{_≤ℤ_, mag}
 use Rattle.records.specs.Kinds.{kindOf}
-use Rattle.records.specs.declared.Body.{Body}
 use Rattle.records.specs.declared.Kind.{Kind}
 use Rattle.records.specs.declared.Record.{Record}
 use Rattle.records.specs.declared.Refusal.{Refusal}
 use Rattle.labels.specs.Assignment.{Assignment}
 use Rattle.labels.specs.Label.{labelOf}
 use Rattle.labels.specs.declared.Lookup.{Lookup}
-use Rattle.decode.specs.Rules.{rules, bodyOf}
+use Rattle.decode.specs.Rules.{bodyOf}
 use Rattle.decode.specs.Decode.{recordOf, decodeWith}
 use Rattle.decode.specs.declared.Decoded.{Decoded}
 use Rattle.encode.specs.Encode.{codesListed, valuesLegal, wordOf, encodeWith, all-legal}

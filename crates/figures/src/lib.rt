@@ -15,7 +15,6 @@ use records::Record;
 use records::Refusal;
 use records::Status;
 ghost use mathlib.Core.Path.{_≡_};
-ghost use lib.IntN.{ℤ};
 ghost use Prim.Native.Nat.{_≤_};
 ghost use Rattle.labels.specs.Assignment.{document01};
 ghost use Rattle.quantities.specs.Nearest.{millionthsOf};

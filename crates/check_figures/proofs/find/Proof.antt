@@ -1,8 +1,8 @@
 -- The place is at most the length; what is left of the length falls.
 -- Assumes nothing.
 use Prim.Native.Nat.{_≤_, _-_}
-use lib.ListN.{length}
 use borrow.Author.Needs.{needs}
+use lib.ListN.{length}
 use Rattle.check_figures.proofs.find.Statement.{statement}
 use Rattle.check_figures.proofs.find.Tie as tie
 

@@ -3,6 +3,7 @@
 use mathlib.Core.Path.{sym, ap, _∙_}
 use mathlib.Core.Bool.{Bool, _&&_}
 use Prim.Native.Nat.{ℕ}
+use borrow.Author.Needs.{needs}
 use lib.Dec.{eqb}
 use mir.Syntax.{w64}
 use mir.Facts.{toZ-ofZ}
@@ -10,44 +11,30 @@ use Rattle.encode.specs.declared.Encoded.{Encoded}
 use Rattle.figures.specs.Coding.{codedOf}
 use Rattle.figures.specs.Agreement.{agreesOf}
 use Rattle.check_figures.specs.Vectors.{given}
-use borrow.Author.Needs.{needs}
 use Rattle.check_figures.proofs.is_right.Statement.{statement}
 use Rattle.check_figures.proofs.is_right.Tie as tie
-use Rattle.check_figures.proofs.is_right.Reads as reads
-use Rattle.check_figures.proofs.is_right.Lts as lts
-use Rattle.figures.proofs.agrees.Reads as agrees-reads
-use Rattle.figures.proofs.code_figure.Reads as code-figure-reads
-use Rattle.records.proofs.number.Reads as number-reads
 
--- src/main.rt:44:11
 code-figure-requires : tie.Need-code-figure-requires
 code-figure-requires c κs = search needs
 
--- src/main.rt:45:23
 enum-known-word : tie.Need-enum-known-word
 enum-known-word c = search needs
 
--- src/main.rt:47:21
 cast-result : tie.Need-cast-result
 cast-result c = search needs
 
--- src/main.rt:47:51
 agrees-requires : tie.Need-agrees-requires
 agrees-requires c κs = search needs
 
--- src/main.rt:49:26
 enum-known-refusal : tie.Need-enum-known-refusal
 enum-known-refusal c = search needs
 
--- src/main.rt:49:38
 number-requires : tie.Need-number-requires
 number-requires c κs = search needs
 
--- src/main.rt:49:38
 cast-result-2 : tie.Need-cast-result-2
 cast-result-2 c = search needs
 
--- src/main.rt:39:1
 returns : tie.Need-returns
 returns c =
     let e = c .before .before .before .before .before .before .before .before .before .args .expected in
@@ -57,7 +44,6 @@ returns c =
     ∙ ap (λ (x : Encoded). given x (e .millionths) (e .answer))
     (sym (w .1) ∙ c .before .before .before .before .before .before .code-figure .ensures ∙ ap (codedOf (e .label) (e .source)) whole)
 
--- src/main.rt:39:1
 returns-2 : tie.Need-returns-2
 returns-2 c =
     let e = c .before .before .before .before .before .before .before .before .args .expected in

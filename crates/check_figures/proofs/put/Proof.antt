@@ -1,9 +1,9 @@
 -- The next place is at most 128, and what is left of the text falls.
 -- Assumes nothing.
-use Prim.Native.Nat.{_≤_, _-_}
 use mathlib.Core.Path.{_≡_}
-use lib.ListN.{length}
+use Prim.Native.Nat.{_≤_, _-_}
 use borrow.Author.Needs.{needs}
+use lib.ListN.{length}
 use Rattle.check_figures.proofs.put.Statement.{statement}
 use Rattle.check_figures.proofs.put.Tie as tie
 

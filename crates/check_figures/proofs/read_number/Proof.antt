@@ -3,8 +3,8 @@
 use Prim.Native.Nat.{ℕ, _*_, _%_, _≤_, _-_}
 use native.Mathlib.Nat.{mul-le-mul-right}
 use native.Mathlib.Omega.{arith}
-use lib.ListN.{length}
 use borrow.Author.Needs.{needs}
+use lib.ListN.{length}
 use Rattle.check_figures.proofs.read_number.Statement.{statement}
 use Rattle.check_figures.proofs.read_number.Tie as tie
 

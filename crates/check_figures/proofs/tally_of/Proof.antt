@@ -1,8 +1,8 @@
 -- A line has at least its own place, so there are at most as many lines as bytes; what is left of the text falls.
 -- Assumes nothing.
 use Prim.Native.Nat.{_≤_, _-_}
-use lib.ListN.{length}
 use borrow.Author.Needs.{needs}
+use lib.ListN.{length}
 use Rattle.check_figures.proofs.tally_of.Statement.{statement}
 use Rattle.check_figures.proofs.tally_of.Tie as tie
 

@@ -1,8 +1,8 @@
 -- The part is as long as it is asked to be, since the whole is longer.
 -- Assumes nothing.
 use mathlib.Core.Path.{sym}
-use lib.Seq.{length-take-le}
 use borrow.Author.Needs.{needs}
+use lib.Seq.{length-take-le}
 use Rattle.check_figures.proofs.write_start.Statement.{statement}
 use Rattle.check_figures.proofs.write_start.Tie as tie
 

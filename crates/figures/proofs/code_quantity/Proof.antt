@@ -1,4 +1,7 @@
+-- The source, then the nearest count, which is legal, so that its word is written.
+-- Assumes nothing.
 use mathlib.Core.Path.{_≡_, sym, ap, subst⁻¹, _∙_}
+use borrow.Author.Needs.{needs}
 use lib.IntN.{ℤ}
 use mir.Syntax.{w16, w64}
 use mir.Val.{SFits, toZ, ofZ}
@@ -12,34 +15,25 @@ use Rattle.quantities.specs.declared.Nearest.{Nearest}
 use Rattle.quantities.specs.declared.Quantity.{Quantity}
 use Rattle.figures.specs.Coding.{codedNearest}
 use Rattle.figures.specs.Words.{legal-source, illegal-source}
-use borrow.Author.Needs.{needs}
 use Rattle.figures.proofs.code_quantity.Statement.{statement}
 use Rattle.figures.proofs.code_quantity.Tie as tie
-use Rattle.figures.proofs.code_quantity.Reads as reads
-use Rattle.figures.proofs.code_quantity.Lts as lts
-use Rattle.figures.proofs.ready_word.Reads as ready-word-reads
-use Rattle.quantities.proofs.nearest_count.Reads as nearest-count-reads
 
 -- the figure and the count as they went through the call
 found : (q : Quantity) (figure n : ℤ) (r : Nearest) → SFits w64 figure → r ≡ nearestCount q (toZ w64 (ofZ w64 figure)) → r ≡ Nearest.Count n → nearestCount q figure ≡ Nearest.Count n
 found q figure n r f e h = ap (nearestCount q) (sym (toZ-ofZ f)) ∙ sym e ∙ h
 
 returns : tie.Need-returns
-returns c = sym (illegal-source document01 (c .before .args .quantity) (c .before .args .source) (c .before .args .millionths) (c .if1 .taken))
+returns c = sym (illegal-source document01 (c .before .args .quantity) (c .before .args .source) (c .before .args .millionths) (search needs))
 
--- src/lib.rt:129:11
 nearest-count-requires : tie.Need-nearest-count-requires
 nearest-count-requires c κs = search needs
 
--- src/lib.rt:130:24
 enum-known-count : tie.Need-enum-known-count
 enum-known-count c = search needs
 
--- src/lib.rt:130:55
 cast-ready-word : tie.Need-cast-ready-word
 cast-ready-word c = search needs
 
--- src/lib.rt:130:34
 ready-word-requires : tie.Need-ready-word-requires
 ready-word-requires c κs =
     let start = c .before .before .before .before .before in
@@ -51,11 +45,9 @@ ready-word-requires c κs =
           (coded q (start .args .millionths) (n .0 .0) (found q (start .args .millionths) (n .0 .0) (nearest .result) (start .fits .millionths) (nearest .ensures) (n .1)) .legal),
     )
 
--- src/lib.rt:131:49
 enum-told : tie.Need-enum-told
 enum-told c = search needs
 
--- src/lib.rt:123:1
 returns-2 : tie.Need-returns-2
 returns-2 c =
     let start = c .before .before .before .before .before .before in
@@ -68,7 +60,6 @@ returns-2 c =
     ∙ ap (codedNearest document01 q s) (sym (found q (start .args .millionths) (n .0 .0) (nearest .result) (start .fits .millionths) (nearest .ensures) (n .1)))
     ∙ sym (legal-source document01 q s (start .args .millionths) (search needs))
 
--- src/lib.rt:123:1
 returns-3 : tie.Need-returns-3
 returns-3 c =
     let start = c .before .before .before .before in

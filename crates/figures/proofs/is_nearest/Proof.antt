@@ -1,6 +1,9 @@
+-- Two counts of 16 bits are equal exactly when their bits are.
+-- Assumes nothing.
 use mathlib.Core.Path.{_≡_, sym, ap, subst, _∙_}
 use mathlib.Core.Bool.{true}
 use borrow.Author.Tests.{eqb-true, eq-eqb}
+use borrow.Author.Needs.{needs}
 use lib.Dec.{eqb}
 use lib.IntN.{ℤ}
 use mir.Syntax.{w16}
@@ -9,11 +12,8 @@ use mir.Facts.{toZ-ofZ}
 use Rattle.bits.specs.Laws.{same}
 use Rattle.figures.specs.Agreement.{equal}
 use Rattle.figures.specs.Agreeing.{equal-true, equal-same}
-use borrow.Author.Needs.{needs}
 use Rattle.figures.proofs.is_nearest.Statement.{statement}
 use Rattle.figures.proofs.is_nearest.Tie as tie
-use Rattle.figures.proofs.is_nearest.Reads as reads
-use Rattle.figures.proofs.is_nearest.Lts as lts
 
 -- two counts of 16 bits are equal exactly when their bits are
 equal-bits : (x y : ℤ) → SFits w16 x → SFits w16 y → eqb (ofZ w16 x) (ofZ w16 y) ≡ equal x y
@@ -25,15 +25,12 @@ equal-bits x y f g =
 enum-known-nearest : tie.Need-enum-known-nearest
 enum-known-nearest c = search needs
 
--- src/lib.rt:251:32
 enum-told : tie.Need-enum-told
 enum-told c = search needs
 
--- src/lib.rt:246:1
 returns : tie.Need-returns
 returns c = rw (c .before .nearest .given .1) (equal-bits (c .before .before .before .args .count) (c .before .nearest .given .0 .0) (c .before .before .before .fits .count) (search needs))
 
--- src/lib.rt:246:1
 returns-2 : tie.Need-returns-2
 returns-2 c = search needs
 

@@ -1,20 +1,17 @@
-use Rattle.quantities.specs.Nearest.{millionthsOf}
-use Rattle.quantities.specs.declared.Quantity.{Quantity}
+-- What the quantity's count is printed as, with the count as it went through the call.
+-- Assumes nothing.
 use mathlib.Core.Path.{ap, _∙_}
+use borrow.Author.Needs.{needs}
 use mir.Syntax.{w16, w64}
 use mir.Facts.{toZ-ofZ}
-use borrow.Author.Needs.{needs}
+use Rattle.quantities.specs.Nearest.{millionthsOf}
+use Rattle.quantities.specs.declared.Quantity.{Quantity}
 use Rattle.figures.proofs.mls_millionths.Statement.{statement}
 use Rattle.figures.proofs.mls_millionths.Tie as tie
-use Rattle.figures.proofs.mls_millionths.Reads as reads
-use Rattle.figures.proofs.mls_millionths.Lts as lts
-use Rattle.quantities.proofs.millionths.Reads as millionths-reads
 
--- src/lib.rt:170:5
 millionths-requires : tie.Need-millionths-requires
 millionths-requires c κs = search needs
 
--- src/lib.rt:167:1
 returns : tie.Need-returns
 returns c =
     toZ-ofZ {w = w64} {z = c .millionths .result} (search needs)

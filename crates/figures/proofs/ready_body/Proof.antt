@@ -1,47 +1,37 @@
-use mir.Facts.{toZ-ofZ}
+-- Each arm by its quantity; the count is the number that its 16 bits hold.
+-- Assumes nothing.
 use borrow.Author.Needs.{needs}
+use mir.Facts.{toZ-ofZ}
 use Rattle.figures.proofs.ready_body.Statement.{statement}
 use Rattle.figures.proofs.ready_body.Tie as tie
-use Rattle.figures.proofs.ready_body.Reads as reads
-use Rattle.figures.proofs.ready_body.Lts as lts
 
--- src/lib.rt:82:21
 enum-told : tie.Need-enum-told
 enum-told c = search needs
 
--- src/lib.rt:87:21
 enum-told-2 : tie.Need-enum-told-2
 enum-told-2 c = search needs
 
--- src/lib.rt:92:21
 enum-told-3 : tie.Need-enum-told-3
 enum-told-3 c = search needs
 
--- src/lib.rt:97:21
 enum-told-4 : tie.Need-enum-told-4
 enum-told-4 c = search needs
 
--- src/lib.rt:103:21
 enum-told-5 : tie.Need-enum-told-5
 enum-told-5 c = search needs
 
--- src/lib.rt:77:1
 returns : tie.Need-returns
 returns c = rw (c .enum-told .given .1, toZ-ofZ (c .before .before .fits .count))
 
--- src/lib.rt:77:1
 returns-2 : tie.Need-returns-2
 returns-2 c = rw (c .enum-told2 .given .1, toZ-ofZ (c .before .before .fits .count))
 
--- src/lib.rt:77:1
 returns-3 : tie.Need-returns-3
 returns-3 c = rw (c .enum-told3 .given .1, toZ-ofZ (c .before .before .fits .count))
 
--- src/lib.rt:77:1
 returns-4 : tie.Need-returns-4
 returns-4 c = rw (c .enum-told4 .given .1, toZ-ofZ (c .before .before .fits .count))
 
--- src/lib.rt:77:1
 returns-5 : tie.Need-returns-5
 returns-5 c = rw (c .enum-told5 .given .1, toZ-ofZ (c .before .before .fits .count))
 

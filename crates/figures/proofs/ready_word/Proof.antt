@@ -1,27 +1,22 @@
+-- The record of a legal count and source is legal, so it is written.
+-- Assumes nothing.
+use mathlib.Core.Path.{ap, _∙_}
+use borrow.Author.Needs.{needs}
 use mir.Facts.{toZ-ofZ}
 use Rattle.figures.specs.Coding.{readyBody}
-use mathlib.Core.Path.{ap, _∙_}
 use Rattle.records.specs.declared.Body.{Body}
 use Rattle.labels.specs.Assignment.{document01}
 use Rattle.encode.specs.Encode.{encodeOf}
 use Rattle.figures.specs.Words.{ready-encoded}
-use borrow.Author.Needs.{needs}
 use Rattle.figures.proofs.ready_word.Statement.{statement}
 use Rattle.figures.proofs.ready_word.Tie as tie
-use Rattle.figures.proofs.ready_word.Reads as reads
-use Rattle.figures.proofs.ready_word.Lts as lts
-use Rattle.encode.proofs.encode.Reads as encode-reads
-use Rattle.figures.proofs.ready_body.Reads as ready-body-reads
 
--- src/lib.rt:118:15
 ready-body-requires : tie.Need-ready-body-requires
 ready-body-requires c κs = search needs
 
--- src/lib.rt:116:5
 encode-requires : tie.Need-encode-requires
 encode-requires c κs = search needs
 
--- src/lib.rt:112:1
 returns : tie.Need-returns
 returns c =
     let start = c .before .before in
