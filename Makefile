@@ -1,15 +1,38 @@
-# Two commands do all the set-up: `make demo` and `make test`. Both need the Rattle kit's `rt` and nothing else.
-.PHONY: demo test fmt
+# Two commands do all the set-up: `make demo` and `make test`. Both need the Rattle kit's `rt`; the tests also need a C and C++ compiler and cargo.
+.PHONY: demo test library test-c test-model exhaustive baselines fmt
 
-# Shows what document 01's worked words read.
+# Lists the example sheet.
 demo:
-	rt check reading_lines
-	@./target/bin/reading_lines
+	rt check list
+	@./target/bin/list < examples/flight.sheet
 
-# The gate: layout of the sources, then every proof from nothing, every must-fail edit and every program.
+# The gate: layout of the sources, the library from C and C++, the model in Rust, then every proof from nothing, every must-fail edit and every program.
 test:
 	rt fmt --check
+	cmp examples/flight.sheet crates/check_sheets/data/flight/0000.bin
+	cmp examples/flight.txt crates/check_sheets/data/flight/0000.txt
+	$(MAKE) --no-print-directory test-model test-c
 	rt ci
+
+# The static library that include/lampcygnet.h describes: target/staticlib/libcapi.a.
+library:
+	rt staticlib capi
+
+# The C test, as C99 and as C++11, on the test vectors.
+test-c: library
+	tests/c/run crates/check_words/data/words.txt crates/check_figures/data/figures.txt crates/check_groups/data/joins.txt
+
+# The independent model on the test vectors and on document 01's lines.
+test-model:
+	cd bindings/model && cargo test --offline --quiet
+
+# The model on all 2^32 words: how many get each answer.
+exhaustive:
+	cd bindings/model && cargo run --offline --release --bin exhaustive
+
+# Plain C and Rust that do the same work, tested against the model, and their times.
+baselines:
+	cd bench && cargo test --offline --quiet && cargo run --offline --release
 
 fmt:
 	rt fmt

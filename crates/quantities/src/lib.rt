@@ -66,14 +66,14 @@ pub fn scale_of(quantity: Quantity) -> Scale
 }
 
 // Whether a number is below 0.
-fn is_negative(number: i64) -> bool
+pub fn is_negative(number: i64) -> bool
     ensures { λ r. ⌜ r ≡ isNegative number ⌝ }
 {
     number < 0
 }
 
 // The number without its sign.
-fn magnitude(number: i64) -> u64
+pub fn magnitude(number: i64) -> u64
     ensures { λ r. ⌜ r ≡ natAbs number ⌝ }
 {
     if number < 0 {

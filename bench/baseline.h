@@ -1,0 +1,34 @@
+/* Plain C for comparison: what a good C programmer writes for the same job. */
+#ifndef BASELINE_H
+#define BASELINE_H
+
+#include <stddef.h>
+#include <stdint.h>
+
+/* The longest listing of a sheet of at most 32,768 bytes: 4,681 words of 25 characters and the total. */
+#define BASELINE_TEXT_MAX 117046
+
+enum baseline_status { BASELINE_FAILURE, BASELINE_NODATA, BASELINE_TEST, BASELINE_READY };
+
+/* An accepted word. `label` is the number written in octal. `code` is the marker (0 none, 1 outer, 2 middle, 3 inner), the
+   category, or the marks of the label (its lowest bit number lowest). `value` is the count, the frequency in tens of kHz,
+   the degrees, the tenths, or bits 14-29 of a part. The status of a part is 0. */
+struct baseline_record {
+    uint8_t label;
+    uint8_t source;
+    uint8_t status;
+    uint8_t code;
+    int32_t value;
+};
+
+/* Each gives 0 or the refusal number; after a refusal nothing but an offset is written. */
+int baseline_decode(uint32_t word, struct baseline_record *record);
+int baseline_code(uint8_t label, uint8_t source, int64_t millionths, uint32_t *word);
+/* The offset is 0 for a legal sheet. */
+int baseline_check(const uint8_t *sheet, size_t length, size_t *offset);
+/* Needs room for BASELINE_TEXT_MAX characters, else 13. A refused sheet has its line as text, and the answer is 0. */
+int baseline_list(const uint8_t *sheet, size_t length, char *text, size_t room, size_t *used);
+/* A page of words: a record and an answer for each; the record of a refused word is left as it was. */
+void baseline_decode_page(const uint32_t *words, size_t length, struct baseline_record *records, uint8_t *answers);
+
+#endif

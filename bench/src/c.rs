@@ -1,0 +1,73 @@
+//! The C baseline, see `baseline.h`.
+
+use std::mem::MaybeUninit;
+
+/// `struct baseline_record`.
+#[repr(C)]
+#[derive(Clone, Copy, Debug, Default, PartialEq, Eq)]
+pub struct Record {
+    pub label: u8,
+    pub source: u8,
+    pub status: u8,
+    pub code: u8,
+    pub value: i32,
+}
+
+/// The room that a listing needs.
+pub const TEXT_MAX: usize = 117_046;
+
+extern "C" {
+    fn baseline_decode(word: u32, record: *mut Record) -> i32;
+    fn baseline_code(label: u8, source: u8, millionths: i64, word: *mut u32) -> i32;
+    fn baseline_check(sheet: *const u8, length: usize, offset: *mut usize) -> i32;
+    fn baseline_list(sheet: *const u8, length: usize, text: *mut u8, room: usize, used: *mut usize) -> i32;
+    fn baseline_decode_page(words: *const u32, length: usize, records: *mut Record, answers: *mut u8);
+}
+
+#[inline]
+pub fn decode(word: u32) -> Result<Record, u8> {
+    let mut record = MaybeUninit::uninit();
+    // SAFETY: the record is written in full when the answer is 0.
+    unsafe {
+        match baseline_decode(word, record.as_mut_ptr()) {
+            0 => Ok(record.assume_init()),
+            refusal => Err(refusal as u8),
+        }
+    }
+}
+
+#[inline]
+pub fn code(label: u8, source: u8, millionths: i64) -> Result<u32, u8> {
+    let mut word = 0;
+    // SAFETY: one number is written.
+    match unsafe { baseline_code(label, source, millionths, &mut word) } {
+        0 => Ok(word),
+        refusal => Err(refusal as u8),
+    }
+}
+
+pub fn check(sheet: &[u8]) -> Result<(), (u8, usize)> {
+    let mut offset = 0;
+    // SAFETY: pointer and length are those of the slice.
+    match unsafe { baseline_check(sheet.as_ptr(), sheet.len(), &mut offset) } {
+        0 => Ok(()),
+        refusal => Err((refusal as u8, offset)),
+    }
+}
+
+/// The listing into a buffer; its length, or 13.
+pub fn list(sheet: &[u8], text: &mut [u8]) -> Result<usize, u8> {
+    let mut used = 0;
+    // SAFETY: pointers and lengths are those of the slices.
+    match unsafe { baseline_list(sheet.as_ptr(), sheet.len(), text.as_mut_ptr(), text.len(), &mut used) } {
+        0 => Ok(used),
+        refusal => Err(refusal as u8),
+    }
+}
+
+/// A page of words; the three slices are of one length.
+pub fn decode_page(words: &[u32], records: &mut [Record], answers: &mut [u8]) {
+    assert!(words.len() == records.len() && words.len() == answers.len());
+    // SAFETY: one record and one answer for each word.
+    unsafe { baseline_decode_page(words.as_ptr(), words.len(), records.as_mut_ptr(), answers.as_mut_ptr()) }
+}

@@ -1,0 +1,7 @@
+//! Fast baselines for the benchmarks: idiomatic Rust, and plain C behind a thin binding.
+//!
+//! `cargo run --release` times them, `cargo test` compares them with the model, and `cargo test --release -- --ignored`
+//! compares both decoders with it on all 2^32 words.
+
+pub mod c;
+pub mod rust;

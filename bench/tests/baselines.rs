@@ -1,0 +1,164 @@
+//! Both baselines against the model on random inputs.
+
+use bench::{c, rust};
+use model::compare::{self, Subject};
+use model::generate::{self, Random};
+use model::word::{Body, Record};
+use model::{figure, sheet};
+
+/// A word's record out of its plain numbers.
+fn record(label: u8, source: u8, status: u8, code: u8, value: i64) -> Record {
+    let (one, two) = (code & 1 == 1, code & 2 == 2);
+    let body = match label {
+        0o222 => Body::VorAzimuth { status, marker: code, count: value },
+        0o034 => Body::VorFrequency { status, frequency: value },
+        0o173 => Body::IlsCourse { status, inhibit: one, count: value },
+        0o174 => Body::IlsGlide { status, inhibit: one, count: value },
+        0o033 => Body::IlsFrequency { status, category: code, frequency: value },
+        0o036 => Body::MlsFrequency { status, frequency: value },
+        0o151 => Body::MlsAzimuth { status, inhibit: one, clearance: two, count: value },
+        0o152 => Body::MlsGlide { status, inhibit: one, clearance: two, count: value },
+        0o153 => Body::SelectedAzimuth { status, manual: one, degrees: value },
+        0o154 => Body::GreatestGlide { status, tenths: value },
+        0o155 => Body::SelectedGlide { status, manual: one, tenths: value },
+        0o140 => Body::Part1 { number: value & 255, content: value >> 8 },
+        0o141 => Body::Part2 { content: value },
+        0o142 => Body::Part3 { content: value },
+        0o143 => Body::Part4 { parity: one, content: value },
+        _ => panic!("no label {label:03o}"),
+    };
+    Record { source, body }
+}
+
+/// A legal sheet's fields are the model's own: the baselines only say whether it is legal.
+fn with_fields(sheet: &[u8], checked: Result<(), (u8, usize)>) -> Result<Vec<sheet::Field>, (u8, usize)> {
+    checked.map(|()| sheet::check(sheet).unwrap_or_default())
+}
+
+struct C;
+
+impl Subject for C {
+    fn decode(&self, word: u32) -> Result<Record, u8> {
+        c::decode(word).map(|r| record(r.label, r.source, r.status, r.code, r.value.into()))
+    }
+    fn code(&self, label: u8, source: u8, millionths: i64) -> Result<u32, u8> {
+        c::code(label, source, millionths)
+    }
+    fn check(&self, sheet: &[u8]) -> Result<Vec<sheet::Field>, (u8, usize)> {
+        with_fields(sheet, c::check(sheet))
+    }
+    fn list(&self, sheet: &[u8]) -> String {
+        let mut text = vec![0; c::TEXT_MAX];
+        let used = c::list(sheet, &mut text).unwrap();
+        text.truncate(used);
+        String::from_utf8(text).unwrap()
+    }
+}
+
+struct Rust;
+
+impl Subject for Rust {
+    fn decode(&self, word: u32) -> Result<Record, u8> {
+        use rust::Body as B;
+        rust::decode(word).map(|r| {
+            let (status, code, value) = match r.body {
+                B::Azimuth { status, marker, count } => (status as u8, marker as u8, i64::from(count)),
+                B::Deviation { status, inhibit, count } => (status as u8, inhibit as u8, i64::from(count)),
+                B::MlsDeviation { status, inhibit, clearance, count } => {
+                    (status as u8, inhibit as u8 + 2 * clearance as u8, i64::from(count))
+                }
+                B::Frequency { status, category, frequency } => (status as u8, category, i64::from(frequency)),
+                B::SelectedAzimuth { status, manual, degrees } => (status as u8, manual as u8, i64::from(degrees)),
+                B::GreatestGlide { status, tenths } => (status as u8, 0, i64::from(tenths)),
+                B::SelectedGlide { status, manual, tenths } => (status as u8, manual as u8, i64::from(tenths)),
+                B::Part { number, parity, content } => {
+                    assert_eq!(number - 1, r.label & 3);
+                    (0, parity as u8, i64::from(content))
+                }
+            };
+            record(r.label, r.source, status, code, value)
+        })
+    }
+    fn code(&self, label: u8, source: u8, millionths: i64) -> Result<u32, u8> {
+        rust::code(label, source, millionths)
+    }
+    fn check(&self, sheet: &[u8]) -> Result<Vec<sheet::Field>, (u8, usize)> {
+        with_fields(sheet, rust::check(sheet))
+    }
+    fn list(&self, sheet: &[u8]) -> String {
+        let mut text = Vec::new();
+        rust::list(sheet, &mut text);
+        String::from_utf8(text).unwrap()
+    }
+}
+
+const SUBJECTS: [(&str, &dyn Subject); 2] = [("C", &C), ("Rust", &Rust)];
+
+fn each(test: impl Fn(&dyn Subject) -> compare::Outcome) {
+    for (name, subject) in SUBJECTS {
+        test(subject).unwrap_or_else(|difference| panic!("{name}: {difference}"));
+    }
+}
+
+#[test]
+fn random_inputs() {
+    each(|subject| compare::random(subject, &mut Random::from_environment("random inputs", 11), 6000));
+}
+
+#[test]
+fn random_words() {
+    each(|subject| {
+        let mut random = Random::from_environment("words", 12);
+        (0..2_000_000).try_for_each(|_| compare::word(subject, generate::any_word(&mut random)))
+    });
+}
+
+#[test]
+fn every_boundary_figure() {
+    each(|subject| {
+        figure::QUANTITIES.iter().try_for_each(|quantity| {
+            let figures = generate::boundary_figures(quantity);
+            figures.into_iter().try_for_each(|m| compare::figure(subject, quantity.label, (m & 3) as u8, m))
+        })
+    });
+}
+
+/// A page is its words one by one, and leaves the record of a refused word alone.
+#[test]
+fn pages() {
+    let mut random = Random::from_environment("pages", 13);
+    let words: Vec<u32> = (0..5000).map(|_| generate::any_word(&mut random)).collect();
+    let mut records = vec![c::Record { label: 255, ..Default::default() }; words.len()];
+    let mut answers = vec![255; words.len()];
+    c::decode_page(&words, &mut records, &mut answers);
+    for ((word, record), answer) in words.into_iter().zip(records).zip(answers) {
+        let page = if answer == 0 { Ok(record) } else { Err(answer) };
+        assert_eq!(page, c::decode(word));
+        assert!(answer == 0 || record.label == 255);
+    }
+}
+
+/// The C listing with too little room is 13 and writes nothing.
+#[test]
+fn no_room() {
+    let mut text = vec![7; c::TEXT_MAX - 1];
+    assert_eq!(c::list(&[], &mut text), Err(13));
+    assert!(text.iter().all(|&byte| byte == 7));
+    let mut random = Random::new(14);
+    let full: Vec<u8> = (0..4681)
+        .flat_map(|_| {
+            let mut record = generate::legal_record_of(&mut random, 0o151);
+            record.body = Body::MlsAzimuth { status: 3, inhibit: false, clearance: false, count: -32768 };
+            sheet::field_bytes(&sheet::Content::Word(model::encode(&record).unwrap()))
+        })
+        .collect();
+    let mut text = vec![0; c::TEXT_MAX];
+    assert_eq!(c::list(&full, &mut text), Ok(c::TEXT_MAX));
+}
+
+/// Both decoders on all 2^32 words; some minutes.
+#[test]
+#[ignore]
+fn every_word() {
+    each(|subject| (0..=u32::MAX).try_for_each(|word| compare::word(subject, word)));
+}

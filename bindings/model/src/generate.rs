@@ -1,0 +1,492 @@
+//! Deterministic inputs for tests: the same seed gives the same inputs on every machine.
+
+use crate::figure::{Quantity, QUANTITIES};
+use crate::sheet::{self, Content, LIMIT};
+use crate::word::{self, Body, Record, LABELS};
+
+/// The splitmix64 generator.
+#[derive(Clone, Debug)]
+pub struct Random {
+    state: u64,
+}
+
+impl Random {
+    pub fn new(seed: u64) -> Random {
+        Random { state: seed }
+    }
+
+    /// A generator seeded from the variable `SEED` (decimal) or else from the given number; the seed is printed.
+    pub fn from_environment(purpose: &str, default: u64) -> Random {
+        let seed = std::env::var("SEED").ok().and_then(|text| text.parse().ok()).unwrap_or(default);
+        println!("{purpose}: SEED={seed}");
+        Random::new(seed)
+    }
+
+    /// The next number.
+    pub fn draw(&mut self) -> u64 {
+        self.state = self.state.wrapping_add(0x9E37_79B9_7F4A_7C15);
+        let mut z = self.state;
+        z = (z ^ z >> 30).wrapping_mul(0xBF58_476D_1CE4_E5B9);
+        z = (z ^ z >> 27).wrapping_mul(0x94D0_49BB_1331_11EB);
+        z ^ z >> 31
+    }
+
+    /// A number below `bound`, which is not zero.
+    pub fn below(&mut self, bound: u64) -> u64 {
+        ((u128::from(self.draw()) * u128::from(bound)) >> 64) as u64
+    }
+
+    /// A number from `least` to `greatest`.
+    pub fn within(&mut self, least: i64, greatest: i64) -> i64 {
+        least + self.below((greatest - least + 1) as u64) as i64
+    }
+
+    pub fn flag(&mut self) -> bool {
+        self.draw() & 1 == 1
+    }
+
+    /// True once in `times`.
+    pub fn once_in(&mut self, times: u64) -> bool {
+        self.below(times) == 0
+    }
+
+    pub fn pick<'a, T>(&mut self, items: &'a [T]) -> &'a T {
+        &items[self.below(items.len() as u64) as usize]
+    }
+
+    pub fn bytes(&mut self, length: usize) -> Vec<u8> {
+        (0..length).map(|_| self.draw() as u8).collect()
+    }
+}
+
+// ---- words and records
+
+/// Any word.
+pub fn uniform_word(random: &mut Random) -> u32 {
+    random.draw() as u32
+}
+
+/// The word with bit 32 set so that the ones are odd in number.
+pub fn with_parity(word: u32) -> u32 {
+    let rest = word & 0x7FFF_FFFF;
+    rest | u32::from(rest.count_ones() % 2 == 0) << 31
+}
+
+/// Random bits with a label of the table; the parity is right three times in four, the zero bits are clear half the time.
+pub fn labelled_word(random: &mut Random) -> u32 {
+    let &(label, zeros) = random.pick(&LABELS);
+    let mut word = (random.draw() as u32 & !0xFF) | u32::from(label.reverse_bits());
+    if random.flag() {
+        for &(first, last) in zeros {
+            for k in first..=last {
+                word &= !(1 << (k - 1));
+            }
+        }
+    }
+    if random.once_in(4) {
+        word
+    } else {
+        with_parity(word)
+    }
+}
+
+/// A legal word.
+pub fn legal_word(random: &mut Random) -> u32 {
+    word::encode(&legal_record(random)).expect("a legal record")
+}
+
+/// A legal word with one bit changed; half the time its parity is made right again, so that a later test sees the damage.
+pub fn damaged_word(random: &mut Random) -> u32 {
+    let word = legal_word(random) ^ 1 << random.below(32);
+    if random.flag() {
+        word
+    } else {
+        with_parity(word)
+    }
+}
+
+/// A word of any of these sorts.
+pub fn any_word(random: &mut Random) -> u32 {
+    match random.below(8) {
+        0 => uniform_word(random),
+        1 | 2 => labelled_word(random),
+        3 | 4 => damaged_word(random),
+        _ => legal_word(random),
+    }
+}
+
+/// A number from a range, its ends more often than chance.
+fn edged(random: &mut Random, least: i64, greatest: i64) -> i64 {
+    match random.below(8) {
+        0 => least,
+        1 => greatest,
+        _ => random.within(least, greatest),
+    }
+}
+
+/// A legal record of any of the fifteen labels.
+pub fn legal_record(random: &mut Random) -> Record {
+    let label = random.pick(&LABELS).0;
+    legal_record_of(random, label)
+}
+
+/// A legal record of one label.
+pub fn legal_record_of(random: &mut Random, label: u8) -> Record {
+    let source = random.below(4) as u8;
+    let status = random.below(4) as u8;
+    let decimal = 1 + random.below(3) as u8;
+    let (one, two) = (random.flag(), random.flag());
+    let code = random.below(4) as u8;
+    let count = edged(random, -4096, 4095);
+    let long = edged(random, -32768, 32767);
+    let frequency = edged(random, 10_000, 17_999);
+    let byte = edged(random, 0, 255);
+    let content = edged(random, 0, 65535);
+    let body = match label {
+        0o222 => Body::VorAzimuth { status, marker: code, count },
+        0o034 => Body::VorFrequency { status: decimal, frequency },
+        0o173 => Body::IlsCourse { status, inhibit: one, count },
+        0o174 => Body::IlsGlide { status, inhibit: one, count },
+        0o033 => Body::IlsFrequency { status: decimal, category: code, frequency },
+        0o036 => Body::MlsFrequency { status: decimal, frequency: 503_100 + 30 * edged(random, 0, 199) },
+        0o151 => Body::MlsAzimuth { status, inhibit: one, clearance: two, count: long },
+        0o152 => Body::MlsGlide { status, inhibit: one, clearance: two, count: long },
+        0o153 => Body::SelectedAzimuth { status, manual: one, degrees: edged(random, 0, 359) },
+        0o154 => Body::GreatestGlide { status, tenths: byte },
+        0o155 => Body::SelectedGlide { status, manual: one, tenths: edged(random, 0, 511) },
+        0o140 => Body::Part1 { number: byte, content: content % 256 },
+        0o141 => Body::Part2 { content },
+        0o142 => Body::Part3 { content },
+        0o143 => Body::Part4 { parity: one, content },
+        _ => unreachable!("labels of the table only"),
+    };
+    Record { source, body }
+}
+
+/// A value a little or far outside a range, or anywhere in it.
+fn stray(random: &mut Random, least: i64, greatest: i64) -> i64 {
+    match random.below(6) {
+        0 => least - 1,
+        1 => greatest + 1,
+        2 => random.within(-70_000, 700_000),
+        _ => edged(random, least, greatest),
+    }
+}
+
+/// A record, any of whose codes and values may be outside its list.
+pub fn any_record(random: &mut Random) -> Record {
+    let mut record = legal_record(random);
+    if random.once_in(4) {
+        record.source = random.draw() as u8;
+    }
+    let odd_code = random.once_in(4).then(|| random.below(8) as u8);
+    match &mut record.body {
+        Body::VorAzimuth { status, marker, count } => {
+            *status = odd_code.unwrap_or(*status);
+            *marker = if random.once_in(4) { random.below(8) as u8 } else { *marker };
+            *count = stray(random, -4096, 4095);
+        }
+        Body::VorFrequency { status, frequency } => {
+            *status = odd_code.unwrap_or(*status);
+            *frequency = stray(random, 10_000, 17_999);
+        }
+        Body::IlsCourse { status, count, .. } | Body::IlsGlide { status, count, .. } => {
+            *status = odd_code.unwrap_or(*status);
+            *count = stray(random, -4096, 4095);
+        }
+        Body::IlsFrequency { status, category, frequency } => {
+            *status = odd_code.unwrap_or(*status);
+            *category = if random.once_in(4) { random.below(8) as u8 } else { *category };
+            *frequency = stray(random, 10_000, 17_999);
+        }
+        Body::MlsFrequency { status, frequency } => {
+            *status = odd_code.unwrap_or(*status);
+            *frequency = match random.below(3) {
+                0 => stray(random, 500_000, 509_999),
+                1 => 503_100 + 30 * random.within(-1, 200),
+                _ => *frequency,
+            };
+        }
+        Body::MlsAzimuth { status, count, .. } | Body::MlsGlide { status, count, .. } => {
+            *status = odd_code.unwrap_or(*status);
+            *count = stray(random, -32768, 32767);
+        }
+        Body::SelectedAzimuth { status, degrees, .. } => {
+            *status = odd_code.unwrap_or(*status);
+            *degrees = stray(random, 0, 359);
+        }
+        Body::GreatestGlide { status, tenths } => {
+            *status = odd_code.unwrap_or(*status);
+            *tenths = stray(random, 0, 255);
+        }
+        Body::SelectedGlide { status, tenths, .. } => {
+            *status = odd_code.unwrap_or(*status);
+            *tenths = stray(random, 0, 511);
+        }
+        Body::Part1 { number, content } => {
+            *number = stray(random, 0, 255);
+            *content = stray(random, 0, 255);
+        }
+        Body::Part2 { content } | Body::Part3 { content } | Body::Part4 { content, .. } => {
+            *content = stray(random, 0, 65535);
+        }
+    }
+    record
+}
+
+// ---- figures
+
+/// The figures around a boundary given in units of 1/(2 x denominator) step: the millionths next to it on both sides.
+fn around(quantity: &Quantity, half_steps: i128, figures: &mut Vec<i64>) {
+    let middle = (half_steps * quantity.numerator).div_euclid(2 * quantity.denominator);
+    figures.extend((middle - 1..=middle + 2).map(|figure| figure as i64));
+}
+
+/// Every boundary of a quantity: each count's value, each half-way point and the ends of its range, with the millionths next
+/// to them; for the circle also those a turn higher; and the ends of 64 bits.
+pub fn boundary_figures(quantity: &Quantity) -> Vec<i64> {
+    let mut figures = vec![i64::MIN, i64::MIN + 1, i64::MAX - 1, i64::MAX, -1, 0, 1];
+    let turns = if quantity.circle { quantity.greatest - quantity.least + 1 } else { 0 };
+    for half_steps in 2 * quantity.least - 3..=2 * (quantity.greatest + turns) + 3 {
+        around(quantity, half_steps, &mut figures);
+    }
+    if quantity.circle {
+        figures.extend([-180_000_001, -180_000_000, -179_999_999, 359_999_999, 360_000_000, 360_000_001]);
+    }
+    figures.sort_unstable();
+    figures.dedup();
+    figures
+}
+
+/// Label, source and figure: measured labels mostly, legal sources mostly, figures at every scale.
+pub fn any_figure(random: &mut Random) -> (u8, u8, i64) {
+    let quantity = *random.pick(&QUANTITIES);
+    let label = match random.below(16) {
+        0 => random.draw() as u8,
+        1 => random.pick(&LABELS).0,
+        _ => quantity.label,
+    };
+    let source = if random.once_in(12) { random.draw() as u8 } else { random.below(4) as u8 };
+    (label, source, any_millionths(random, &quantity))
+}
+
+/// A figure for a quantity: near its range, at a boundary, or any 64-bit number.
+pub fn any_millionths(random: &mut Random, quantity: &Quantity) -> i64 {
+    let greatest = (quantity.greatest * quantity.numerator / quantity.denominator) as i64;
+    match random.below(6) {
+        0 => random.draw() as i64 >> random.below(64),
+        1 | 2 => {
+            let reach = if quantity.circle { 2 * greatest } else { greatest };
+            random.within(-greatest - greatest / 8, reach + reach / 8)
+        }
+        _ => {
+            let turns = if quantity.circle { 8192 } else { 0 };
+            let half_steps = random.within(2 * quantity.least as i64 - 3, 2 * (quantity.greatest as i64 + turns) + 3);
+            let mut figures = Vec::new();
+            around(quantity, i128::from(half_steps), &mut figures);
+            *random.pick(&figures)
+        }
+    }
+}
+
+// ---- groups of parts
+
+/// Words for the reassembly: runs of parts in sequence, broken here and there by another source, a part left out, a repeated
+/// part, a damaged word or a word of another label.
+pub fn part_words(random: &mut Random, length: usize) -> Vec<u32> {
+    let mut words = Vec::new();
+    let mut source = 0;
+    let mut next = 0;
+    while words.len() < length {
+        if next == 0 {
+            source = random.below(4) as u8;
+        }
+        let mut record = legal_record_of(random, [0o140, 0o141, 0o142, 0o143][next]);
+        record.source = source;
+        let word = word::encode(&record).unwrap();
+        next = (next + 1) % 4;
+        match random.below(24) {
+            0 => next = random.below(4) as usize,
+            1 => words.push(damaged_word(random)),
+            2 => words.push(any_word(random)),
+            3 => words.push(word ^ 1 << random.below(32)),
+            4 => words.push(with_parity(word ^ 1 << (8 + random.below(2)))),
+            5 => words.push(with_parity(word ^ 1 << (29 + random.below(2)))),
+            6 => words.push(with_parity(word ^ 1 << (10 + random.below(3)))),
+            7 => words.extend([word, word]),
+            _ => words.push(word),
+        }
+    }
+    words.truncate(length);
+    words
+}
+
+// ---- sheets
+
+/// The bytes of a field that is no group: words and figures that often belong together, and notes.
+fn leaf(random: &mut Random, out: &mut Vec<u8>) {
+    match random.below(8) {
+        0 => {
+            let length = random.below(12) as usize;
+            let text = random.bytes(length);
+            out.extend(sheet::field_bytes(&Content::Note(&text)));
+        }
+        1 | 2 => out.extend(sheet::field_bytes(&Content::Word(any_word(random)))),
+        3 => {
+            let (label, _, millionths) = any_figure(random);
+            out.extend(sheet::field_bytes(&Content::Figure(label, millionths)));
+        }
+        _ => word_and_figure(random, out),
+    }
+}
+
+/// A measured word and a figure after it: agreeing, near, ten times too large, a turn higher, or of another label.
+fn word_and_figure(random: &mut Random, out: &mut Vec<u8>) {
+    let quantity = *random.pick(&QUANTITIES);
+    let record = legal_record_of(random, quantity.label);
+    let count = word::count_of(&record).unwrap();
+    let figure = quantity.print(i128::from(count)) as i64;
+    let label = if random.once_in(8) { random.pick(&LABELS).0 } else { quantity.label };
+    let figure = match random.below(6) {
+        0 => figure * 10,
+        1 => any_millionths(random, &quantity),
+        2 => figure + random.within(-3, 3),
+        3 if quantity.circle && figure < 0 => figure + 360_000_000 - random.within(0, 30_000),
+        _ => figure,
+    };
+    out.extend(sheet::field_bytes(&Content::Word(word::encode(&record).unwrap())));
+    out.extend(sheet::field_bytes(&Content::Figure(label, figure)));
+}
+
+/// A legal run of fields at a depth, of about `size` bytes.
+fn legal_run(random: &mut Random, size: usize, depth: usize) -> Vec<u8> {
+    let mut run = Vec::new();
+    while run.len() < size {
+        if depth < 4 && random.once_in(4) {
+            let room = size - run.len();
+            let inside_size = random.below(room as u64 + 1) as usize;
+            let inside = legal_run(random, inside_size, depth + 1);
+            run.extend(sheet::field_bytes(&Content::Group(&inside)));
+        } else {
+            leaf(random, &mut run);
+        }
+    }
+    run
+}
+
+/// A legal sheet of about `size` bytes, with groups to depth 3 and fields to depth 4.
+pub fn legal_sheet(random: &mut Random, size: usize) -> Vec<u8> {
+    let sheet = legal_run(random, size, 1);
+    debug_assert!(sheet.len() > LIMIT || sheet::check(&sheet).is_ok());
+    sheet
+}
+
+/// A run of legal fields of exactly `size` bytes, at least 3: a legal sheet filled up by a note.
+pub fn exact_sheet(random: &mut Random, size: usize) -> Vec<u8> {
+    let share = random.below(size as u64) as usize;
+    let mut sheet = legal_run(random, share.saturating_sub(64), 1);
+    if sheet.len() + 3 > size {
+        sheet.clear();
+    }
+    let text = random.bytes(size - sheet.len() - 3);
+    sheet.extend(sheet::field_bytes(&Content::Note(&text)));
+    sheet
+}
+
+/// Groups inside one another to any depth: legal while the depth is at most 3.
+pub fn nested_sheet(random: &mut Random, depth: usize) -> Vec<u8> {
+    let mut inside = Vec::new();
+    for _ in 0..depth {
+        let mut run = Vec::new();
+        for _ in 0..random.below(3) {
+            leaf(random, &mut run);
+        }
+        run.extend(sheet::field_bytes(&Content::Group(&inside)));
+        for _ in 0..random.below(3) {
+            leaf(random, &mut run);
+        }
+        inside = run;
+    }
+    inside
+}
+
+/// One change to a sheet: a changed bit or byte, a cut, an insertion, a removed stretch, or a header's tag or length edited.
+pub fn damage(random: &mut Random, sheet: &mut Vec<u8>) {
+    let places = tag_places(sheet);
+    if sheet.is_empty() {
+        let length = 1 + random.below(4) as usize;
+        *sheet = random.bytes(length);
+        return;
+    }
+    let at = random.below(sheet.len() as u64) as usize;
+    let tag_at = if places.is_empty() { at } else { *random.pick(&places) };
+    match random.below(9) {
+        0 => sheet[at] ^= 1 << random.below(8),
+        1 => sheet[at] = random.draw() as u8,
+        2 => sheet.truncate(at),
+        3 => {
+            let length = 1 + random.below(4) as usize;
+            let bytes = random.bytes(length);
+            sheet.splice(at..at, bytes);
+        }
+        4 => {
+            let end = (at + 1 + random.below(4) as usize).min(sheet.len());
+            sheet.drain(at..end);
+        }
+        5 => sheet[tag_at] = *random.pick(&[0x10, 0x11, 0x12, 0x20, 0x00, 0x01, 0x13, 0x21, 0xFF]),
+        6 => edit_length(random, sheet, tag_at + 1, 255),
+        7 => edit_length(random, sheet, tag_at + 2, 3),
+        _ => {
+            let bytes = [0x20, 0, 0];
+            sheet.splice(tag_at..tag_at, bytes);
+        }
+    }
+}
+
+fn edit_length(random: &mut Random, sheet: &mut [u8], at: usize, by: u64) {
+    if at < sheet.len() {
+        sheet[at] = sheet[at].wrapping_add(1 + random.below(by) as u8).wrapping_sub(random.below(2) as u8 * 4);
+    }
+}
+
+/// Where tags stand in a legal sheet; the first place alone otherwise.
+fn tag_places(bytes: &[u8]) -> Vec<usize> {
+    match sheet::check(bytes) {
+        Ok(fields) => fields.iter().map(|field| field.place).collect(),
+        Err((_, offset)) => vec![offset.min(bytes.len().saturating_sub(1))],
+    }
+}
+
+/// A sheet of any sort: legal, damaged once or more, nested too deep, of any bytes, empty, at the limit or past it.
+pub fn any_sheet(random: &mut Random) -> Vec<u8> {
+    match random.below(64) {
+        0 => Vec::new(),
+        1 => {
+            let length = random.below(40) as usize;
+            random.bytes(length)
+        }
+        2 => exact_sheet(random, LIMIT),
+        3 => exact_sheet(random, LIMIT + 1),
+        4 => {
+            let mut sheet = exact_sheet(random, LIMIT);
+            damage(random, &mut sheet);
+            sheet
+        }
+        5..=8 => {
+            let depth = random.below(7) as usize;
+            nested_sheet(random, depth)
+        }
+        9..=28 => {
+            let size = random.below(300) as usize;
+            legal_sheet(random, size)
+        }
+        _ => {
+            let size = random.below(120) as usize;
+            let mut sheet = legal_sheet(random, size);
+            for _ in 0..=random.below(3) {
+                damage(random, &mut sheet);
+            }
+            sheet
+        }
+    }
+}

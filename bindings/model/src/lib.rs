@@ -1,0 +1,21 @@
+//! An independent model of document 01: written from its sentences alone, with exact whole numbers and no thought of
+//! speed. Tests compare the library with it. Each function quotes the sentence it follows.
+//!
+//! `cargo test` runs the vectors, the document's own lines and the model's own properties; the variable `SEED` (decimal)
+//! changes the random inputs. `cargo run --release --bin exhaustive` counts the answers of all 2^32 words.
+//! Other code is compared with the model through [`compare::Subject`].
+
+pub mod compare;
+pub mod figure;
+pub mod generate;
+pub mod listing;
+pub mod reading;
+pub mod reassembly;
+pub mod sheet;
+pub mod word;
+
+pub use figure::{agrees, code, print_millionths, print_text};
+pub use listing::list;
+pub use reassembly::{Answer, Partial};
+pub use sheet::{check, note, write, Content, Field};
+pub use word::{decode, encode, Body, Record};

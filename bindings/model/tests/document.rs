@@ -1,0 +1,220 @@
+//! Document 01's own lines ("Lines to check against"), the slips it names, and points settled in its readings.
+
+use model::reading::{self, Reading, Value};
+use model::reassembly::{step, Answer};
+use model::sheet::{self, Content};
+use model::word::{self, FAILURE, NODATA, READY, TEST};
+use model::{agrees, code, decode, encode, list, note, print_text, write, Body, Record};
+
+fn value(word: u32) -> Value {
+    reading::reading(&decode(word).unwrap()).unwrap().value
+}
+
+fn count(coded: Result<u32, u8>) -> Result<i64, u8> {
+    coded.map(|word| word::count_of(&decode(word).unwrap()).unwrap())
+}
+
+#[test]
+fn starred_words() {
+    let azimuth = Body::VorAzimuth { status: READY, marker: 0, count: 2048 };
+    assert_eq!(decode(0xE800_0049), Ok(Record { source: 0, body: azimuth }));
+    assert_eq!(value(0xE800_0049), Value::Degrees(90.0));
+    assert_eq!(value(0xFC00_0049), Value::Degrees(-45.0));
+    assert_eq!(value(0x6400_00DE), Value::Depth(0.1));
+    assert_eq!(word::count_of(&decode(0x7FFF_00DE).unwrap()), Some(-1));
+    assert_eq!(print_text(0o173, -1).unwrap(), "-0.000098");
+    assert_eq!(value(0x04C8_0038), Value::Frequency(11_320));
+    assert_eq!(value(0x841C_0078), Value::Frequency(509_070));
+    let manual = Body::SelectedAzimuth { status: READY, manual: true, degrees: 359 };
+    assert_eq!(decode(0xEB3C_00D6), Ok(Record { source: 0, body: manual }));
+    assert_eq!(decode(0xEB44_00D6), Err(6));
+    assert_eq!(value(0x6940_0036), Value::Setting(40));
+    assert_eq!(decode(0xE140_0036), Err(7));
+    assert_eq!(decode(0xE800_0048), Err(1));
+}
+
+#[test]
+fn figures() {
+    for (label, millionths, coded) in [
+        (0o173, 399_951, true),
+        (0o173, -400_048, true),
+        (0o173, 399_952, false),
+        (0o173, -400_049, false),
+        (0o174, 799_902, true),
+        (0o174, 799_903, false),
+        (0o151, 2_398_581_000, true),
+        (0o151, 2_398_581_001, false),
+    ] {
+        let answer = code(label, 0, millionths);
+        assert_eq!(answer.is_ok(), coded, "{label:03o} {millionths}");
+        assert!(answer.is_ok() || answer == Err(8));
+    }
+    assert_eq!(count(code(0o151, 0, 36_600)), Ok(0));
+    assert_eq!(count(code(0o152, 0, 109_800)), Ok(2));
+    assert_eq!(count(code(0o152, 0, -109_800)), Ok(-2));
+    assert_eq!(count(code(0o151, 0, 2_398_581_000)), Ok(32_767));
+    assert_eq!(count(code(0o222, 0, 179_980_000)), Ok(-4096));
+    assert_eq!(count(code(0o222, 0, 180_000_000)), Ok(-4096));
+    assert_eq!(count(code(0o222, 0, 315_000_000)), Ok(-1024));
+    assert_eq!(code(0o222, 0, 360_000_000), Err(8));
+    assert_eq!(count(code(0o222, 0, 359_990_000)), Ok(0));
+    assert_eq!(count(code(0o222, 0, -180_000_000)), Ok(-4096));
+    assert_eq!(code(0o222, 0, -180_000_001), Err(8));
+}
+
+#[test]
+fn figure_refusals_in_order() {
+    assert_eq!(code(0o153, 4, i64::MAX), Err(2));
+    assert_eq!(code(0o173, 4, i64::MAX), Err(4));
+    assert_eq!(code(0o173, 3, i64::MAX), Err(8));
+    assert_eq!(code(0o152, 3, i64::MIN), Err(8));
+}
+
+#[test]
+fn printing_ties() {
+    assert_eq!(print_text(0o222, 8).unwrap(), "0.351562");
+    assert_eq!(print_text(0o222, 24).unwrap(), "1.054688");
+    assert_eq!(print_text(0o222, -8).unwrap(), "-0.351562");
+    assert_eq!(print_text(0o222, 4095).unwrap(), "179.956055");
+    assert_eq!(print_text(0o153, 0), None);
+    assert_eq!(print_text(0o173, 4096), None);
+}
+
+#[test]
+fn agreement() {
+    assert!(agrees(0x6400_00DE, 100_000));
+    assert!(!agrees(0x6400_00DE, 1_000_000));
+    // Agreement is about the count alone: a nodata word keeps its count.
+    let body = Body::IlsCourse { status: NODATA, inhibit: true, count: 1024 };
+    assert!(agrees(encode(&Record { source: 2, body }).unwrap(), 100_000));
+    assert!(!agrees(0x04C8_0038, 0));
+    assert!(!agrees(0xE800_0048, 90_000_000));
+}
+
+#[test]
+fn listing() {
+    let bytes = [
+        0x10, 0, 4, 0xE8, 0, 0, 0x49, 0x10, 0, 4, 0x64, 0, 0, 0xDE, 0x11, 0, 9, 0x7B, 0, 0, 0, 0, 0, 0x0F, 0x42, 0x40,
+        0x10, 0, 4, 0xE8, 0, 0, 0x48,
+    ];
+    let text = "222 0 ready 90.000000\n173 0 ready 0.100000\nfigure differs\nrefused 1\nwords 3 refused 1\n";
+    assert_eq!(list(&bytes), text);
+    assert_eq!(list(&[]), "words 0 refused 0\n");
+    assert_eq!(list(&[0x20, 0, 1, 0x10]), "sheet refused 9 at 3\n");
+}
+
+#[test]
+fn named_slips() {
+    // The label with bit 1 highest.
+    assert_eq!(word::label_of(0x49), 0o222);
+    // Bits 30 and 31 of the parts are no status, and parts have no reading.
+    for (part, body) in [
+        (0, Body::Part1 { number: 1, content: 2 }),
+        (1, Body::Part2 { content: 3 }),
+        (2, Body::Part3 { content: 4 }),
+        (3, Body::Part4 { parity: true, content: 5 }),
+    ] {
+        let word = encode(&Record { source: 1, body }).unwrap();
+        assert_eq!(word >> 29 & 3, part);
+        assert_eq!(reading::reading(&decode(word).unwrap()), None);
+    }
+    // A nodata word keeps its data and writes back.
+    let body = Body::VorFrequency { status: NODATA, frequency: 11_795 };
+    let word = encode(&Record { source: 3, body }).unwrap();
+    assert_eq!(decode(word), Ok(Record { source: 3, body }));
+    // Test is bit 31 alone, nodata is bit 30 alone.
+    for (status, bits) in [(FAILURE, 0), (NODATA, 1), (TEST, 2), (READY, 3)] {
+        let body = Body::GreatestGlide { status, tenths: 0 };
+        assert_eq!(encode(&Record { source: 0, body }).unwrap() >> 29 & 3, bits);
+    }
+}
+
+#[test]
+fn writing_refuses_4_before_6() {
+    let body = Body::VorAzimuth { status: READY, marker: 4, count: 5000 };
+    assert_eq!(encode(&Record { source: 0, body }), Err(4));
+    let body = Body::VorAzimuth { status: READY, marker: 3, count: 5000 };
+    assert_eq!(encode(&Record { source: 0, body }), Err(6));
+    assert_eq!(encode(&Record { source: 4, body }), Err(4));
+    let body = Body::MlsFrequency { status: FAILURE, frequency: 503_100 };
+    assert_eq!(encode(&Record { source: 0, body }), Err(4));
+    let body = Body::MlsFrequency { status: READY, frequency: 502_000 };
+    assert_eq!(encode(&Record { source: 0, body }), Err(6));
+}
+
+#[test]
+fn order_of_word_refusals() {
+    // Digit 10 and status 11 together: 5 comes before 4.
+    assert_eq!(decode(with_odd_ones(0x38 | 3 << 29 | 10 << 14)), Err(5));
+    assert_eq!(decode(with_odd_ones(0x38 | 3 << 29)), Err(4));
+    // MLS tens code 2 is no code, code 3 with units 0 is 5030, no legal value.
+    assert_eq!(decode(with_odd_ones(0x78 | 2 << 26)), Err(4));
+    assert_eq!(decode(with_odd_ones(0x78 | 3 << 26)), Err(6));
+    // A bad digit and a zero bit together: 3 comes first.
+    assert_eq!(decode(with_odd_ones(0x38 | 10 << 14 | 1 << 10)), Err(3));
+}
+
+fn with_odd_ones(word: u32) -> u32 {
+    model::generate::with_parity(word)
+}
+
+#[test]
+fn chart_points() {
+    let word = |source, body| encode(&Record { source, body }).unwrap();
+    let course = |source, status| word(source, Body::IlsCourse { status, inhibit: false, count: 1024 });
+    let glide = |source, status| word(source, Body::IlsGlide { status, inhibit: false, count: -512 });
+    assert_eq!(reading::chart_point(course(1, READY), glide(1, TEST)), Ok((0.1, -0.1)));
+    assert_eq!(reading::chart_point(glide(1, READY), course(1, READY)), Err(2));
+    assert_eq!(reading::chart_point(course(1, NODATA), glide(2, READY)), Err(4));
+    assert_eq!(reading::chart_point(course(2, READY), glide(2, FAILURE)), Err(8));
+    assert_eq!(reading::chart_point(0xE800_0048, 0xEB44_00D6), Err(1));
+    assert_eq!(reading::chart_point(0xE800_0049, 0xEB44_00D6), Err(6));
+    let test = reading::reading(&decode(glide(0, TEST)).unwrap());
+    assert_eq!(test, Some(Reading { value: Value::Depth(-0.1), test: true }));
+}
+
+#[test]
+fn parts_out_of_sequence() {
+    let word = |source, body| encode(&Record { source, body }).unwrap();
+    let one = word(1, Body::Part1 { number: 0x12, content: 0x34 });
+    let two = word(1, Body::Part2 { content: 0x5678 });
+    let three = word(1, Body::Part3 { content: 0x9ABC });
+    let four = word(1, Body::Part4 { parity: true, content: 0xDEF0 });
+    assert_eq!(step(None, two), (None, Answer::Refused(14)));
+    let (begun, answer) = step(None, one);
+    assert_eq!(answer, Answer::Taken(1));
+    // A wrong word of the next part, its bits 31 and 30 exchanged, is 4 and changes nothing.
+    assert_eq!(step(begun.clone(), two ^ 3 << 29), (begun.clone(), Answer::Refused(4)));
+    assert_eq!(step(begun.clone(), 0x6400_00DE), (begun.clone(), Answer::Refused(2)));
+    assert_eq!(step(begun.clone(), three), (None, Answer::Refused(14)));
+    let other = word(2, Body::Part2 { content: 0 });
+    assert_eq!(step(begun.clone(), other), (None, Answer::Refused(14)));
+    let (begun, _) = step(begun, two);
+    let (begun, _) = step(begun, three);
+    assert_eq!(step(begun, four), (None, Answer::Whole(0xDEF0_9ABC_5678_3412, true)));
+}
+
+#[test]
+fn notes_and_writing() {
+    let mut buffer = [0xAA; 12];
+    assert_eq!(write(&mut buffer, 2, &Content::Note(b"ab")), Ok(7));
+    assert_eq!(buffer, [0xAA, 0xAA, 0x12, 0, 2, b'a', b'b', 0xAA, 0xAA, 0xAA, 0xAA, 0xAA]);
+    assert_eq!(write(&mut buffer, 6, &Content::Word(0)), Err((13, None)));
+    assert_eq!(write(&mut buffer, usize::MAX, &Content::Word(0)), Err((15, None)));
+    assert_eq!(write(&mut buffer, 0, &Content::Group(&[0x20, 0, 1, 0x20])), Err((9, Some(3))));
+    let deep = [0x20, 0, 6, 0x20, 0, 3, 0x20, 0, 0];
+    assert_eq!(write(&mut [0; 20], 0, &Content::Group(&deep)), Err((12, Some(6))));
+    assert_eq!(write(&mut [0; 20], 0, &Content::Group(&deep[..0])), Ok(3));
+    let sheet = [0x20, 0, 4, 0x12, 0, 1, b'x', 0x12, 0, 0];
+    assert_eq!(note(&sheet, 3), Ok(&b"x"[..]));
+    assert_eq!(note(&sheet, 7), Ok(&b""[..]));
+    for place in [0, 1, 6, 10, usize::MAX] {
+        assert_eq!(note(&sheet, place), Err((10, place)));
+    }
+    assert_eq!(note(&sheet[..9], 3), Err((9, 7)));
+    assert_eq!(sheet::check(&vec![0; 32_769]), Err((15, 0)));
+    let mut large = vec![0; 40_000];
+    assert_eq!(write(&mut large, 32_761, &Content::Word(1)), Ok(32_768));
+    assert_eq!(write(&mut large, 32_762, &Content::Word(1)), Err((15, None)));
+    assert_eq!(write(&mut large, 0, &Content::Note(&vec![1; 70_000])), Err((15, None)));
+}

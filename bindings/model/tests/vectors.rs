@@ -1,0 +1,75 @@
+//! The model over the test vectors, which stand beside the programs that run them.
+
+use model::reassembly;
+use model::word;
+use model::Answer;
+use std::fs;
+use std::path::PathBuf;
+
+fn data(name: &str) -> PathBuf {
+    PathBuf::from(env!("CARGO_MANIFEST_DIR")).join("../../crates").join(name)
+}
+
+fn lines(name: &str, least: usize) -> Vec<Vec<String>> {
+    let text = fs::read_to_string(data(name)).unwrap();
+    let lines: Vec<Vec<String>> =
+        text.lines().map(|line| line.split_whitespace().map(str::to_string).collect()).collect();
+    assert!(lines.len() >= least, "{name} has {} lines", lines.len());
+    lines
+}
+
+fn hex(text: &str) -> u32 {
+    u32::from_str_radix(text, 16).unwrap()
+}
+
+#[test]
+fn words() {
+    for line in lines("check_words/data/words.txt", 900) {
+        let word = hex(&line[0]);
+        let (refusal, count) = match model::decode(word) {
+            Ok(record) => (0, word::count_of(&record).unwrap_or(0)),
+            Err(number) => (number, 0),
+        };
+        assert_eq!([refusal.to_string(), count.to_string()], line[1..], "{}", line[0]);
+    }
+}
+
+#[test]
+fn figures() {
+    for line in lines("check_figures/data/figures.txt", 600) {
+        let label = u8::from_str_radix(&line[0], 8).unwrap();
+        let answer = match model::code(label, line[1].parse().unwrap(), line[2].parse().unwrap()) {
+            Ok(word) => format!("{word:08X}"),
+            Err(number) => format!("refused {number}"),
+        };
+        assert_eq!(answer, line[3..].join(" "), "{line:?}");
+    }
+}
+
+#[test]
+fn joins() {
+    let mut state = None;
+    for line in lines("check_groups/data/joins.txt", 200) {
+        let (next, answer) = reassembly::step(state, hex(&line[0]));
+        let text = match answer {
+            Answer::Taken(number) => format!("begun C {number}"),
+            Answer::Whole(bits, true) => format!("joined C {bits} True"),
+            Answer::Whole(bits, false) => format!("joined C {bits} False"),
+            Answer::Refused(number) => format!("refused {number}"),
+        };
+        assert_eq!(text, line[1..].join(" "), "{}", line[0]);
+        state = next;
+    }
+}
+
+#[test]
+fn sheets() {
+    let mut names: Vec<PathBuf> = fs::read_dir(data("check_sheets/data/sheets")).unwrap().map(|entry| entry.unwrap().path()).collect();
+    names.retain(|name| name.extension().is_some_and(|extension| extension == "bin"));
+    names.sort();
+    assert!(names.len() >= 80, "{} sheets", names.len());
+    for name in names {
+        let expected = fs::read_to_string(name.with_extension("txt")).unwrap();
+        assert_eq!(model::list(&fs::read(&name).unwrap()), expected, "{}", name.display());
+    }
+}

@@ -1,0 +1,37 @@
+-- Each arm's answer is the definition's at the status that the arm matched.
+-- Assumes nothing.
+use mathlib.Core.Path.{ap, sym}
+use borrow.Author.Needs.{needs}
+use Rattle.records.specs.declared.Status.{Status}
+use Rattle.columns.specs.Columns.{figureUnder}
+use Rattle.columns.proofs.figure_under.Statement.{statement}
+use Rattle.columns.proofs.figure_under.Tie as tie
+
+enum-told : tie.Need-enum-told
+enum-told c = search needs
+
+enum-told-2 : tie.Need-enum-told-2
+enum-told-2 c = search needs
+
+enum-told-3 : tie.Need-enum-told-3
+enum-told-3 c = search needs
+
+enum-told-4 : tie.Need-enum-told-4
+enum-told-4 c = search needs
+
+returns : tie.Need-returns
+returns c = ap (λ (s : Status). figureUnder s (c .before .before .args .figure)) (sym (c .enum-told .given .1))
+
+returns-2 : tie.Need-returns-2
+returns-2 c = ap (λ (s : Status). figureUnder s (c .before .before .args .figure)) (sym (c .enum-told2 .given .1))
+
+returns-3 : tie.Need-returns-3
+returns-3 c = ap (λ (s : Status). figureUnder s (c .before .before .args .figure)) (sym (c .enum-told3 .given .1))
+
+returns-4 : tie.Need-returns-4
+returns-4 c = ap (λ (s : Status). figureUnder s (c .before .before .args .figure)) (sym (c .enum-told4 .given .1))
+
+pub figure-under-spec : {M : Type 1} → statement M
+figure-under-spec =
+    tie.close
+    (tie.spec enum-told enum-told-2 enum-told-3 enum-told-4 returns returns-2 returns-3 returns-4)

@@ -1,0 +1,38 @@
+-- A number below 0 is -k-1 and its digits are those of k complemented; any other is its own digits.
+-- Assumes nothing.
+use mathlib.Core.Path.{ap, _∙_, subst, sym}
+use Prim.Native.Nat.{ℕ, _-_, _≤_}
+use native.Mathlib.Omega.{arith}
+use lib.IntN.{ℤ, natAbs}
+use lib.Signed.{mag}
+use Rattle.contents.proofs.Machine.{negative, positive, castable}
+use Rattle.contents.proofs.complement_64.Statement.{statement}
+use Rattle.contents.proofs.complement_64.Tie as tie
+
+cast-result : tie.Need-cast-result
+cast-result c =
+    castable _ (c .before .args .number) (c .before .fits .number) (negative (c .before .args .number) (c .before .fits .number) (c .if1 .taken) .0)
+
+sub-result : tie.Need-sub-result
+sub-result c =
+    let k : ℕ = mag (c .before .args .number) in
+    subst (λ (x : ℤ). natAbs x ≤ 18446744073709551615)
+    (sym (negative (c .before .args .number) (c .before .fits .number) (c .if1 .taken) .0))
+    (omega (arith, c .before .fits .number .sfits))
+
+cast-result-2 : tie.Need-cast-result-2
+cast-result-2 c =
+    castable _ (c .before .args .number) (c .before .fits .number) (positive (c .before .args .number) (c .before .fits .number) (c .if1 .left) .0)
+
+returns : tie.Need-returns
+returns c =
+    let n = negative (c .before .args .number) (c .before .fits .number) (c .if1 .taken) in
+    ap (λ (x : ℤ). 18446744073709551615 - natAbs x) (n .0) ∙ n .1
+
+returns-2 : tie.Need-returns-2
+returns-2 c =
+    let p = positive (c .before .args .number) (c .before .fits .number) (c .if1 .left) in
+    ap natAbs (p .0) ∙ p .1
+
+pub complement-64-spec : {M : Type 1} → statement M
+complement-64-spec = tie.close (tie.spec cast-result sub-result cast-result-2 returns returns-2)

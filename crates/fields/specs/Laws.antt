@@ -1,0 +1,108 @@
+-- The laws of a run of bytes that others cite: what a field's start says, and one step without the number of steps.
+-- Assumes nothing.
+use mathlib.Core.Path.{_≡_, refl, sym, ap, ap₂, subst, _∙_}
+use mathlib.Core.Bool.{Bool, true, false, cond}
+use mathlib.Core.List.{List, [], _∷_, _++_}
+use Prim.Native.Nat.{ℕ, zero, suc, _+_, _*_, _-_, _≤_, _<_}
+use native.Mathlib.Omega.{arith}
+use borrow.Author.Tests.{eqb-true, ltb-false}
+use lib.Dec.{eqb, ltb}
+use native.Mathlib.Nat.{le-refl}
+use lib.ListN.{length, take, drop, length-drop}
+use lib.Seq.{length-take-le}
+use Rattle.records.specs.declared.Refusal.{Refusal}
+use Rattle.fields.specs.declared.FieldKind.{FieldKind}
+use Rattle.fields.specs.declared.TagLookup.{TagLookup}
+use Rattle.fields.specs.declared.Start.{Start}
+use Rattle.fields.specs.Start.{kindOfTag, lengthAllowed, depthAllowed, judged, startOf}
+use Rattle.fields.specs.Run.{Field, Scan, Fields, Refused, _andThen_, inside, step, scan, runOf}
+
+-- ---- what a field's start says
+
+-- a field stands where the header is whole and known, its content fits, and its length and depth are allowed
+pub record Stands (d : ℕ) (bs : List ℕ) (k : FieldKind) (n : ℕ) : Type 0 where
+  pub room : 3 + n ≤ length bs
+  pub long : lengthAllowed k n ≡ true
+  pub deep : depthAllowed k d ≡ true
+
+judged-field : (t : TagLookup) (len left d : ℕ) (k : FieldKind) (n : ℕ) → judged t len left d ≡ Start.Field k n
+    → (n ≤ left) × (lengthAllowed k n ≡ true) × (depthAllowed k d ≡ true)
+judged-field TagLookup.Unknown len left d k n = λ e. let z : _≡_ {A = ℕ} 0 1 = cc in absurd (omega arith)
+judged-field (TagLookup.Known j) len left d k n = λ e. by (ltb left len) refl (lengthAllowed j len) refl (depthAllowed j d) refl e
+  where
+    by : (a : Bool) → ltb left len ≡ a → (b : Bool) → lengthAllowed j len ≡ b → (c : Bool) → depthAllowed j d ≡ c
+        → cond a (Start.Refused Refusal.Truncated) (cond b (cond c (Start.Field j len) (Start.Refused Refusal.Depth)) (Start.Refused Refusal.Length))
+        ≡ Start.Field k n
+        → (n ≤ left) × (lengthAllowed k n ≡ true) × (depthAllowed k d ≡ true)
+    by true ea b eb c ec e = let z : _≡_ {A = ℕ} 0 1 = cc in absurd (omega arith)
+    by false ea false eb c ec e = let z : _≡_ {A = ℕ} 0 1 = cc in absurd (omega arith)
+    by false ea true eb false ec e = let z : _≡_ {A = ℕ} 0 1 = cc in absurd (omega arith)
+    by false ea true eb true ec e =
+        let kind : j ≡ k = cc in
+        let long : len ≡ n = cc in
+        (subst (λ (m : ℕ). m ≤ left) long (ltb-false left len ea), ap₂ lengthAllowed (sym kind) (sym long) ∙ eb, ap (λ (i : FieldKind). depthAllowed i d) (sym kind) ∙ ec)
+
+pub stands : (d : ℕ) (bs : List ℕ) (k : FieldKind) (n : ℕ) → startOf d bs ≡ Start.Field k n → Stands d bs k n
+stands d [] k n e = let z : _≡_ {A = ℕ} 0 1 = cc in absurd (omega arith)
+stands d (t ∷ []) k n e = let z : _≡_ {A = ℕ} 0 1 = cc in absurd (omega arith)
+stands d (t ∷ h ∷ []) k n e = let z : _≡_ {A = ℕ} 0 1 = cc in absurd (omega arith)
+stands d (t ∷ h ∷ l ∷ bs) k n e =
+    let j = judged-field (kindOfTag t) (h * 256 + l) (length bs) d k n e in
+    let fits : n ≤ length bs = j .0 in
+    record { room = omega arith; long = j .1; deep = j .2 }
+
+-- ---- one step, whatever the number of steps
+
+-- the rest after a field is shorter, and so is its content
+rest-shorter : (d : ℕ) (bs : List ℕ) (k : FieldKind) (n m : ℕ) → startOf d bs ≡ Start.Field k n → length bs ≤ suc m → length (drop (3 + n) bs) ≤ m
+rest-shorter d bs k n m e h =
+    let room : 3 + n ≤ length bs = stands d bs k n e .room in
+    let rest : length (drop (3 + n) bs) ≡ length bs - (3 + n) = length-drop (3 + n) bs in
+    omega arith
+
+content-shorter : (d : ℕ) (bs : List ℕ) (k : FieldKind) (n m : ℕ) → startOf d bs ≡ Start.Field k n → length bs ≤ suc m → length (take n (drop 3 bs)) ≤ m
+content-shorter d bs k n m e h =
+    let room : 3 + n ≤ length bs = stands d bs k n e .room in
+    let after : length (drop 3 bs) ≡ length bs - 3 = length-drop 3 bs in
+    let content : length (take n (drop 3 bs)) ≡ n = length-take-le n (drop 3 bs) (omega arith) in
+    omega arith
+
+-- two ways to go on that agree on every shorter run give the same step
+step-agrees : (run run' : ℕ → ℕ → List ℕ → Scan) (d p : ℕ) (bs : List ℕ) (s : Start)
+    → ((k : FieldKind) (n : ℕ) → s ≡ Start.Field k n → (e q : ℕ) → run e q (take n (drop 3 bs)) ≡ run' e q (take n (drop 3 bs)))
+    → ((k : FieldKind) (n : ℕ) → s ≡ Start.Field k n → (e q : ℕ) → run e q (drop (3 + n) bs) ≡ run' e q (drop (3 + n) bs))
+    → step run d p bs s ≡ step run' d p bs s
+step-agrees run run' d p bs Start.End hc hr = refl
+step-agrees run run' d p bs (Start.Refused f) hc hr = refl
+step-agrees run run' d p bs (Start.Field k n) hc hr =
+    ap₂ (λ (i r : Scan). Fields (record { place = p; depth = d; kind = k; content = take n (drop 3 bs) } ∷ []) andThen i andThen r)
+    (within k (hc k n refl)) (hr k n refl d (p + 3 + n))
+  where
+    within : (j : FieldKind) → ((e q : ℕ) → run e q (take n (drop 3 bs)) ≡ run' e q (take n (drop 3 bs)))
+        → inside run j d p (take n (drop 3 bs)) ≡ inside run' j d p (take n (drop 3 bs))
+    within FieldKind.Word h = refl
+    within FieldKind.Figure h = refl
+    within FieldKind.Note h = refl
+    within FieldKind.Group h = h (suc d) (p + 3)
+
+-- more steps than bytes change nothing
+pub enough : (k m d p : ℕ) (bs : List ℕ) → length bs ≤ k → length bs ≤ m → scan k d p bs ≡ scan m d p bs
+unfolding scan
+enough zero zero d p bs hk hm = refl
+enough zero (suc m) d p [] hk hm = refl
+enough zero (suc m) d p (b ∷ bs) hk hm = absurd (omega arith)
+enough (suc k) zero d p [] hk hm = refl
+enough (suc k) zero d p (b ∷ bs) hk hm = absurd (omega arith)
+enough (suc k) (suc m) d p bs hk hm =
+    step-agrees (scan k) (scan m) d p bs (startOf d bs)
+    (λ j n e f q. enough k m f q (take n (drop 3 bs)) (content-shorter d bs j n k e hk) (content-shorter d bs j n m e hm))
+    (λ j n e f q. enough k m f q (drop (3 + n) bs) (rest-shorter d bs j n k e hk) (rest-shorter d bs j n m e hm))
+
+-- A run is its first step, with the same definition for the inside and for the rest.
+pub run-step : (d p : ℕ) (bs : List ℕ) → runOf d p bs ≡ step runOf d p bs (startOf d bs)
+unfolding scan
+run-step d p [] = refl
+run-step d p (b ∷ bs) =
+    step-agrees (scan (length bs)) runOf d p (b ∷ bs) (startOf d (b ∷ bs))
+    (λ j n e f q. enough (length bs) (length (take n (drop 3 (b ∷ bs)))) f q (take n (drop 3 (b ∷ bs))) (content-shorter d (b ∷ bs) j n (length bs) e (le-refl _)) (le-refl _))
+    (λ j n e f q. enough (length bs) (length (drop (3 + n) (b ∷ bs))) f q (drop (3 + n) (b ∷ bs)) (rest-shorter d (b ∷ bs) j n (length bs) e (le-refl _)) (le-refl _))

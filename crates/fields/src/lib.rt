@@ -1,0 +1,106 @@
+// The fields of a sheet: a tag of one byte, a length of two, high byte first, and the content.
+use records::Refusal;
+ghost use mathlib.Core.Path.{_≡_};
+ghost use lib.ListN.{drop};
+ghost use Rattle.fields.specs.Start.{kindOfTag, lengthAllowed, depthAllowed, judged, startOf};
+
+// What a field holds.
+pub enum FieldKind {
+    // tag 10 hex: a 32-bit word
+    Word,
+    // tag 11 hex: a figure, a label with a number of millionths
+    Figure,
+    // tag 12 hex: a note
+    Note,
+    // tag 20 hex: a group of fields
+    Group,
+}
+
+// What a tag stands for.
+pub enum TagLookup {
+    Known(FieldKind),
+    Unknown,
+}
+
+// What stands at the start of a run of bytes.
+pub enum Start {
+    // No byte is left.
+    End,
+    // What stands there is refused: number 9, 10, 11 or 12 of document 01.
+    Refused(Refusal),
+    // A field of this kind, with a content of this length.
+    Field(FieldKind, usize),
+}
+
+// The kind of field that a tag stands for.
+fn kind_of_tag(tag: u8) -> TagLookup
+    ensures { λ r. ⌜ r ≡ kindOfTag tag ⌝ }
+{
+    match tag {
+        0x10 => TagLookup::Known(FieldKind::Word),
+        0x11 => TagLookup::Known(FieldKind::Figure),
+        0x12 => TagLookup::Known(FieldKind::Note),
+        0x20 => TagLookup::Known(FieldKind::Group),
+        _ => TagLookup::Unknown,
+    }
+}
+
+// Whether a field of this kind may have this length.
+fn length_allowed(kind: FieldKind, length: usize) -> bool
+    ensures { λ r. ⌜ r ≡ lengthAllowed kind length ⌝ }
+{
+    match kind {
+        FieldKind::Word => length == 4,
+        FieldKind::Figure => length == 9,
+        FieldKind::Note => true,
+        FieldKind::Group => true,
+    }
+}
+
+// Whether a field of this kind may stand at this depth.
+fn depth_allowed(kind: FieldKind, depth: u8) -> bool
+    ensures { λ r. ⌜ r ≡ depthAllowed kind depth ⌝ }
+{
+    match kind {
+        FieldKind::Word => true,
+        FieldKind::Figure => true,
+        FieldKind::Note => true,
+        FieldKind::Group => depth < 4,
+    }
+}
+
+// A whole header: the tag's kind, the length, the number of bytes after the header, and the depth.
+fn judge(found: TagLookup, length: usize, left: usize, depth: u8) -> Start
+    ensures { λ r. ⌜ r ≡ judged found length left depth ⌝ }
+{
+    match found {
+        TagLookup::Unknown => Start::Refused(Refusal::Tag),
+        TagLookup::Known(kind) => {
+            if left < length {
+                return Start::Refused(Refusal::Truncated);
+            }
+            if !length_allowed(kind, length) {
+                return Start::Refused(Refusal::Length);
+            }
+            if !depth_allowed(kind, depth) {
+                return Start::Refused(Refusal::Depth);
+            }
+            Start::Field(kind, length)
+        }
+    }
+}
+
+// What stands at a place in a run of bytes, as part of a run at this depth.
+pub fn start_at(run: &[u8], at: usize, depth: u8) -> Start
+    ensures { λ r. ⌜ r ≡ startOf depth (drop at (now (run .entry))) ⌝ }
+{
+    if run.len() <= at {
+        return Start::End;
+    }
+    let left = run.len() - at;
+    if left < 3 {
+        return Start::Refused(Refusal::Truncated);
+    }
+    let length = run[at + 1] as usize * 256 + run[at + 2] as usize;
+    judge(kind_of_tag(run[at]), length, left - 3, depth)
+}

@@ -1,0 +1,142 @@
+-- The record that numbers stand for, or their refusal: 2 for no kind, 4 for a code or a source outside its list, 6 for a value that the record
+-- cannot hold. What the kind has no field for is not looked at.
+-- Assumes nothing.
+use mathlib.Core.Path.{_≡_}
+use mathlib.Core.Bool.{Bool, true, false, cond, _&&_}
+use mathlib.Core.List.{List, [], _∷_}
+use Prim.Native.Nat.{ℕ, _+_, _%_}
+use lib.Dec.{eqb, leb}
+use Rattle.records.specs.Codes.{binaryStatus, markerOf, markerListed, categoryOf}
+use Rattle.records.specs.declared.Body.{Body}
+use Rattle.records.specs.declared.Kind.{Kind}
+use Rattle.records.specs.declared.Record.{Record}
+use Rattle.records.specs.declared.Refusal.{Refusal}
+use Rattle.records.specs.declared.Status.{Status}
+use Rattle.labels.specs.Table.{kinds}
+use Rattle.labels.specs.declared.Lookup.{Lookup}
+use Rattle.decode.specs.declared.Decoded.{Decoded}
+use Rattle.flat_fields.specs.declared.Fields.{Fields}
+use Rattle.flat_records.specs.declared.FlatRecord.{FlatRecord}
+
+-- the status of a number from 1 to 4: one more than its code in a binary word
+abbrev pub statusOf : ℕ → Status
+statusOf n = binaryStatus ((n + 3) % 4)
+
+-- the kind at a place of document 01's table
+abbrev pub kindIn : List Kind → ℕ → ℕ → Lookup
+kindIn [] place n = Lookup.Unknown
+kindIn (k ∷ ks) place n = cond (eqb n place) (Lookup.Known k) (kindIn ks (place + 1) n)
+
+-- counted from 1
+abbrev pub kindAt : ℕ → Lookup
+kindAt n = kindIn kinds 1 n
+
+-- a status, a flag
+abbrev pub statusListed : ℕ → Bool
+statusListed n = leb 1 n && leb n 4
+
+abbrev pub flagListed : ℕ → Bool
+flagListed n = leb n 1
+
+-- every code that the kind has is in its list
+abbrev pub listed : Kind → FlatRecord → Bool
+listed Kind.VorAzimuth f = statusListed (f .status) && markerListed (f .marker)
+listed Kind.VorFrequency f = statusListed (f .status)
+listed Kind.IlsCourse f = statusListed (f .status) && flagListed (f .inhibit)
+listed Kind.IlsGlide f = statusListed (f .status) && flagListed (f .inhibit)
+listed Kind.IlsFrequency f = statusListed (f .status) && leb (f .category) 3
+listed Kind.MlsFrequency f = statusListed (f .status)
+listed Kind.MlsAzimuthDeviation f = statusListed (f .status) && (flagListed (f .inhibit) && flagListed (f .clearance))
+listed Kind.MlsGlideDeviation f = statusListed (f .status) && (flagListed (f .inhibit) && flagListed (f .clearance))
+listed Kind.SelectedAzimuth f = statusListed (f .status) && flagListed (f .manual)
+listed Kind.GreatestGlideAngle f = statusListed (f .status)
+listed Kind.SelectedGlideAngle f = statusListed (f .status) && flagListed (f .manual)
+listed Kind.Part1 f = true
+listed Kind.Part2 f = true
+listed Kind.Part3 f = true
+listed Kind.Part4 f = flagListed (f .«parity_good»)
+
+-- the greatest value that the record of a kind can hold; one with a count has no value, and any number is taken
+abbrev pub most : Kind → ℕ
+most Kind.VorAzimuth = 4294967295
+most Kind.VorFrequency = 4294967295
+most Kind.IlsCourse = 4294967295
+most Kind.IlsGlide = 4294967295
+most Kind.IlsFrequency = 4294967295
+most Kind.MlsFrequency = 4294967295
+most Kind.MlsAzimuthDeviation = 4294967295
+most Kind.MlsGlideDeviation = 4294967295
+most Kind.SelectedAzimuth = 65535
+most Kind.GreatestGlideAngle = 65535
+most Kind.SelectedGlideAngle = 65535
+most Kind.Part1 = 255
+most Kind.Part2 = 65535
+most Kind.Part3 = 65535
+most Kind.Part4 = 65535
+
+-- what the numbers mean, for every kind; within `most` the remainders are the value itself
+abbrev pub fieldsOf : FlatRecord → Fields
+fieldsOf f = record {
+  status = statusOf (f .status);
+  marker = markerOf (f .marker);
+  category = categoryOf (f .category);
+  azimuth = record { 0 = f .count };
+  course = record { 0 = f .count };
+  glide = record { 0 = f .count };
+  deviation = record { 0 = f .count };
+  inhibit = eqb (f .inhibit) 1;
+  clearance = eqb (f .clearance) 1;
+  manual = eqb (f .manual) 1;
+  «parity_good» = eqb (f .«parity_good») 1;
+  «word_number» = f .«word_number»;
+  frequency = f .value;
+  setting = f .value % 65536;
+  octet = f .value % 256;
+}
+
+abbrev pub bodyFrom : Kind → Fields → Body
+bodyFrom Kind.VorAzimuth f = Body.VorAzimuth (f .status) (f .marker) (f .azimuth)
+bodyFrom Kind.VorFrequency f = Body.VorFrequency (f .status) (f .frequency)
+bodyFrom Kind.IlsCourse f = Body.IlsCourse (f .status) (f .inhibit) (f .course)
+bodyFrom Kind.IlsGlide f = Body.IlsGlide (f .status) (f .inhibit) (f .glide)
+bodyFrom Kind.IlsFrequency f = Body.IlsFrequency (f .status) (f .category) (f .frequency)
+bodyFrom Kind.MlsFrequency f = Body.MlsFrequency (f .status) (f .frequency)
+bodyFrom Kind.MlsAzimuthDeviation f = Body.MlsAzimuthDeviation (f .status) (f .inhibit) (f .clearance) (f .deviation)
+bodyFrom Kind.MlsGlideDeviation f = Body.MlsGlideDeviation (f .status) (f .inhibit) (f .clearance) (f .deviation)
+bodyFrom Kind.SelectedAzimuth f = Body.SelectedAzimuth (f .status) (f .manual) (f .setting)
+bodyFrom Kind.GreatestGlideAngle f = Body.GreatestGlideAngle (f .status) (f .setting)
+bodyFrom Kind.SelectedGlideAngle f = Body.SelectedGlideAngle (f .status) (f .manual) (f .setting)
+bodyFrom Kind.Part1 f = Body.Part1 (f .«word_number») (f .octet)
+bodyFrom Kind.Part2 f = Body.Part2 (f .setting)
+bodyFrom Kind.Part3 f = Body.Part3 (f .setting)
+bodyFrom Kind.Part4 f = Body.Part4 (f .«parity_good») (f .setting)
+
+-- the record of a known kind
+abbrev pub recordAs : Kind → FlatRecord → Record
+recordAs k f = record { source = f .source; body = bodyFrom k (fieldsOf f) }
+
+-- 4 before 6
+abbrev pub recordOfKind : Kind → FlatRecord → Decoded
+recordOfKind k f =
+    cond (leb (f .source) 3 && listed k f)
+    (cond (leb (f .value) (most k)) (Decoded.Accepted (recordAs k f)) (Decoded.Refused Refusal.Value))
+    (Decoded.Refused Refusal.Code)
+
+abbrev pub recordFound : Lookup → FlatRecord → Decoded
+recordFound (Lookup.Known k) f = recordOfKind k f
+recordFound Lookup.Unknown f = Decoded.Refused Refusal.Label
+
+-- the record that numbers stand for
+abbrev pub recordFrom : FlatRecord → Decoded
+recordFrom f = recordFound (kindAt (f .kind)) f
+
+-- ---- one step of the order at a time
+
+pub codes-broken : (k : Kind) (f : FlatRecord) → (leb (f .source) 3 && listed k f) ≡ false → recordOfKind k f ≡ Decoded.Refused Refusal.Code
+codes-broken k f c = rw c
+
+pub value-broken : (k : Kind) (f : FlatRecord) → (leb (f .source) 3 && listed k f) ≡ true → leb (f .value) (most k) ≡ false → recordOfKind k f ≡ Decoded.Refused Refusal.Value
+value-broken k f c v = rw (c, v)
+
+pub all-kept : (k : Kind) (f : FlatRecord) → (leb (f .source) 3 && listed k f) ≡ true → leb (f .value) (most k) ≡ true → recordOfKind k f ≡ Decoded.Accepted (recordAs k f)
+all-kept k f c v = rw (c, v)

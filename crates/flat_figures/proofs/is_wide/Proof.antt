@@ -1,0 +1,11 @@
+-- The range of the count by its `mag`.
+-- Assumes nothing.
+use Rattle.flat_figures.proofs.Range.{in-range}
+use Rattle.flat_figures.proofs.is_wide.Statement.{statement}
+use Rattle.flat_figures.proofs.is_wide.Tie as tie
+
+returns : tie.Need-returns
+returns c = in-range 32767 (c .args .count) (c .fits .count)
+
+pub is-wide-spec : {M : Type 1} → statement M
+is-wide-spec = tie.close (tie.spec returns)

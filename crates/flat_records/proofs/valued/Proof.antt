@@ -1,0 +1,22 @@
+-- Each number by what its call ensures.
+-- Assumes nothing.
+use borrow.Author.Needs.{needs}
+use Rattle.flat_records.proofs.valued.Statement.{statement}
+use Rattle.flat_records.proofs.valued.Tie as tie
+
+status-number-requires : tie.Need-status-number-requires
+status-number-requires c κs = search needs
+
+category-number-requires : tie.Need-category-number-requires
+category-number-requires c κs = search needs
+
+flag-number-requires : tie.Need-flag-number-requires
+flag-number-requires c κs = search needs
+
+returns : tie.Need-returns
+returns c = rw (c .flag-number .ensures, c .before .category-number .ensures, c .before .before .status-number .ensures)
+
+pub valued-spec : {M : Type 1} → statement M
+valued-spec =
+    tie.close
+    (tie.spec status-number-requires category-number-requires flag-number-requires returns)

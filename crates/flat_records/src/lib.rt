@@ -1,0 +1,295 @@
+// A record as numbers, for other languages.
+use decode::Decoded;
+use records::Body;
+use records::Category;
+use records::Marker;
+use records::Status;
+ghost use mathlib.Core.Path.{_≡_};
+ghost use Rattle.records.specs.Codes.{markerCode, categoryCode, flagBit};
+ghost use Rattle.decode.specs.Decode.{decodeOf};
+ghost use Rattle.flat_records.specs.Numbers.{statusNumber, measured, valued, part, refused, flatBody, flatOf};
+
+// A record as numbers. Zero stands in every field that the kind has not, and beside a refusal in every other field.
+#[repr(C)]
+pub struct FlatRecord {
+    // document 01's number, or 0 where the word is accepted
+    pub refusal: u8,
+    // 1 to 15, in the order of document 01's table
+    pub kind: u8,
+    pub source: u8,
+    // 1 failure, 2 nodata, 3 test, 4 ready; 0 in the parts of group C
+    pub status: u8,
+    // 0 none, 1 outer, 2 middle, 4 inner
+    pub marker: u8,
+    // 0 not stated, 1 I, 2 II, 3 III
+    pub category: u8,
+    pub inhibit: u8,
+    pub clearance: u8,
+    pub manual: u8,
+    pub parity_good: u8,
+    pub word_number: u8,
+    pub count: i16,
+    // a frequency in tens of kHz, degrees, tenths of a degree, or a part's content
+    pub value: u32,
+}
+
+// The number of a status.
+fn status_number(status: Status) -> u8
+    ensures { λ r. ⌜ r ≡ statusNumber status ⌝ }
+{
+    match status {
+        Status::Failure => 1,
+        Status::NoData => 2,
+        Status::Test => 3,
+        Status::Ready => 4,
+    }
+}
+
+// The code of a marker.
+fn marker_number(marker: Marker) -> u8
+    ensures { λ r. ⌜ r ≡ markerCode marker ⌝ }
+{
+    match marker {
+        Marker::None => 0,
+        Marker::Outer => 1,
+        Marker::Middle => 2,
+        Marker::Inner => 4,
+    }
+}
+
+// The code of a category.
+fn category_number(category: Category) -> u8
+    ensures { λ r. ⌜ r ≡ categoryCode category ⌝ }
+{
+    match category {
+        Category::NotStated => 0,
+        Category::I => 1,
+        Category::II => 2,
+        Category::III => 3,
+    }
+}
+
+// The bit of a flag.
+pub fn flag_number(flag: bool) -> u8
+    ensures { λ r. ⌜ r ≡ flagBit flag ⌝ }
+{
+    if flag { 1 } else { 0 }
+}
+
+// The numbers of a record with a count.
+fn measured(
+    kind: u8,
+    source: u8,
+    status: Status,
+    marker: Marker,
+    inhibit: bool,
+    clearance: bool,
+    count: i16,
+) -> FlatRecord
+    ensures { λ r. ⌜ r ≡ measured kind source (statusNumber status) (markerCode marker) (flagBit inhibit) (flagBit clearance) count ⌝ }
+{
+    FlatRecord {
+        refusal: 0,
+        kind: kind,
+        source: source,
+        status: status_number(status),
+        marker: marker_number(marker),
+        category: 0,
+        inhibit: flag_number(inhibit),
+        clearance: flag_number(clearance),
+        manual: 0,
+        parity_good: 0,
+        word_number: 0,
+        count: count,
+        value: 0,
+    }
+}
+
+// The numbers of a record with another value.
+fn valued(
+    kind: u8,
+    source: u8,
+    status: Status,
+    category: Category,
+    manual: bool,
+    value: u32,
+) -> FlatRecord
+    ensures { λ r. ⌜ r ≡ valued kind source (statusNumber status) (categoryCode category) (flagBit manual) value ⌝ }
+{
+    FlatRecord {
+        refusal: 0,
+        kind: kind,
+        source: source,
+        status: status_number(status),
+        marker: 0,
+        category: category_number(category),
+        inhibit: 0,
+        clearance: 0,
+        manual: flag_number(manual),
+        parity_good: 0,
+        word_number: 0,
+        count: 0,
+        value: value,
+    }
+}
+
+// The numbers of a part of group C.
+fn part(kind: u8, source: u8, parity_good: bool, word_number: u8, content: u16) -> FlatRecord
+    ensures { λ r. ⌜ r ≡ part kind source (flagBit «parity_good») «word_number» content ⌝ }
+{
+    FlatRecord {
+        refusal: 0,
+        kind: kind,
+        source: source,
+        status: 0,
+        marker: 0,
+        category: 0,
+        inhibit: 0,
+        clearance: 0,
+        manual: 0,
+        parity_good: flag_number(parity_good),
+        word_number: word_number,
+        count: 0,
+        value: content as u32,
+    }
+}
+
+// The numbers of a refusal.
+fn refused(refusal: u8) -> FlatRecord
+    ensures { λ r. ⌜ r ≡ refused refusal ⌝ }
+{
+    FlatRecord {
+        refusal: refusal,
+        kind: 0,
+        source: 0,
+        status: 0,
+        marker: 0,
+        category: 0,
+        inhibit: 0,
+        clearance: 0,
+        manual: 0,
+        parity_good: 0,
+        word_number: 0,
+        count: 0,
+        value: 0,
+    }
+}
+
+// The numbers of a record, from its source and body.
+fn flat_body(source: u8, body: Body) -> FlatRecord
+    ensures { λ r. ⌜ r ≡ flatBody source body ⌝ }
+{
+    match body {
+        Body::VorAzimuth {
+            status,
+            marker,
+            count,
+        } => measured(1, source, status, marker, false, false, count.0),
+        Body::VorFrequency { status, frequency } => valued(
+            2,
+            source,
+            status,
+            Category::NotStated,
+            false,
+            frequency,
+        ),
+        Body::IlsCourse {
+            status,
+            inhibit,
+            count,
+        } => measured(3, source, status, Marker::None, inhibit, false, count.0),
+        Body::IlsGlide {
+            status,
+            inhibit,
+            count,
+        } => measured(4, source, status, Marker::None, inhibit, false, count.0),
+        Body::IlsFrequency {
+            status,
+            category,
+            frequency,
+        } => valued(5, source, status, category, false, frequency),
+        Body::MlsFrequency { status, frequency } => valued(
+            6,
+            source,
+            status,
+            Category::NotStated,
+            false,
+            frequency,
+        ),
+        Body::MlsAzimuthDeviation {
+            status,
+            inhibit,
+            clearance,
+            count,
+        } => measured(7, source, status, Marker::None, inhibit, clearance, count.0),
+        Body::MlsGlideDeviation {
+            status,
+            inhibit,
+            clearance,
+            count,
+        } => measured(8, source, status, Marker::None, inhibit, clearance, count.0),
+        Body::SelectedAzimuth {
+            status,
+            manual,
+            degrees,
+        } => valued(
+            9,
+            source,
+            status,
+            Category::NotStated,
+            manual,
+            degrees as u32,
+        ),
+        Body::GreatestGlideAngle { status, tenths } => valued(
+            10,
+            source,
+            status,
+            Category::NotStated,
+            false,
+            tenths as u32,
+        ),
+        Body::SelectedGlideAngle {
+            status,
+            manual,
+            tenths,
+        } => valued(
+            11,
+            source,
+            status,
+            Category::NotStated,
+            manual,
+            tenths as u32,
+        ),
+        Body::Part1 {
+            word_number,
+            content,
+        } => part(12, source, false, word_number, content as u16),
+        Body::Part2 { content } => part(13, source, false, 0, content),
+        Body::Part3 { content } => part(14, source, false, 0, content),
+        Body::Part4 {
+            parity_good,
+            content,
+        } => part(15, source, parity_good, 0, content),
+    }
+}
+
+// The numbers of a record or a refusal.
+pub fn flat_of(decoded: Decoded) -> FlatRecord
+    ensures { λ r. ⌜ r ≡ flatOf decoded ⌝ }
+{
+    match decoded {
+        Decoded::Accepted(record) => {
+            let source = record.source;
+            let body = record.body;
+            flat_body(source, body)
+        }
+        Decoded::Refused(refusal) => refused(records::number(refusal)),
+    }
+}
+
+// The numbers of a word's record, or of its refusal.
+pub fn decode_flat(word: u32) -> FlatRecord
+    ensures { λ r. ⌜ r ≡ flatOf (decodeOf word) ⌝ }
+{
+    flat_of(decode::decode(word))
+}

@@ -1,0 +1,5 @@
+pub mod Codes
+pub mod Back
+pub mod Forth
+pub mod Words
+pub mod Refusals

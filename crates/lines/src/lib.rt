@@ -1,0 +1,142 @@
+// The lines of the listing, into a buffer.
+use columns::Columns;
+use columns::Figure;
+use columns::Mark;
+use decode::Decoded;
+use records::Refusal;
+use records::Status;
+use verdicts::Previous;
+use verdicts::Verdict;
+ghost use Rattle.text.specs.Writing.{Writes};
+ghost use Rattle.verdicts.specs.Verdicts.{verdictOf};
+ghost use Rattle.lines.specs.Lines.{statusText, markText, figureText, heading, marked, recordLine, refusedLine, wordLine, verdictLine, totalLine, refusalLine};
+
+// A status.
+fn put_status(out: &mut [u8], at: usize, status: Status) -> usize
+    ensures { λ r. ⌜ Writes (now (out .entry)) at (statusText status) (now (out .exit)) r ⌝ }
+{
+    match status {
+        Status::Failure => text::put_text(out, at, b"failure"),
+        Status::NoData => text::put_text(out, at, b"nodata"),
+        Status::Test => text::put_text(out, at, b"test"),
+        Status::Ready => text::put_text(out, at, b"ready"),
+    }
+}
+
+// What stands in the status's place.
+fn put_mark(out: &mut [u8], at: usize, mark: Mark) -> usize
+    ensures { λ r. ⌜ Writes (now (out .entry)) at (markText mark) (now (out .exit)) r ⌝ }
+{
+    match mark {
+        Mark::Status(status) => put_status(out, at, status),
+        Mark::Part(part) => text::put_named(out, at, b"part", part as u64),
+    }
+}
+
+// A figure, or a dash.
+fn put_figure(out: &mut [u8], at: usize, figure: Figure) -> usize
+    ensures { λ r. ⌜ Writes (now (out .entry)) at (figureText figure) (now (out .exit)) r ⌝ }
+{
+    match figure {
+        Figure::Number {
+            negative,
+            places,
+            size,
+        } => text::put_signed(out, at, negative, places, size),
+        Figure::Absent => text::put_byte(out, at, 45),
+    }
+}
+
+// The label and the source, with a blank behind each.
+fn put_heading(out: &mut [u8], at: usize, label: u32, source: u8) -> usize
+    ensures { λ r. ⌜ Writes (now (out .entry)) at (heading label source) (now (out .exit)) r ⌝ }
+{
+    let first = text::put_octal3(out, at, label);
+    let second = text::put_byte(out, first, 32);
+    let third = text::put_decimal(out, second, source as u64);
+    text::put_byte(out, third, 32)
+}
+
+// The same with the status or part behind it.
+fn put_marked(out: &mut [u8], at: usize, label: u32, source: u8, mark: Mark) -> usize
+    ensures { λ r. ⌜ Writes (now (out .entry)) at (marked label source mark) (now (out .exit)) r ⌝ }
+{
+    let first = put_heading(out, at, label, source);
+    let second = put_mark(out, first, mark);
+    text::put_byte(out, second, 32)
+}
+
+// The line of an accepted word.
+fn put_record_line(out: &mut [u8], at: usize, label: u32, source: u8, columns: Columns) -> usize
+    ensures { λ r. ⌜ Writes (now (out .entry)) at (recordLine label source columns) (now (out .exit)) r ⌝ }
+{
+    let mark = columns.mark;
+    let figure = columns.figure;
+    let first = put_marked(out, at, label, source, mark);
+    let second = put_figure(out, first, figure);
+    text::put_byte(out, second, 10)
+}
+
+// The line of a refused word.
+fn put_refused_line(out: &mut [u8], at: usize, refusal: Refusal) -> usize
+    ensures { λ r. ⌜ Writes (now (out .entry)) at (refusedLine refusal) (now (out .exit)) r ⌝ }
+{
+    let end = text::put_named(out, at, b"refused ", records::number(refusal) as u64);
+    text::put_byte(out, end, 10)
+}
+
+// The line of a word.
+pub fn put_word_line(out: &mut [u8], at: usize, word: u32) -> usize
+    ensures { λ r. ⌜ Writes (now (out .entry)) at (wordLine word) (now (out .exit)) r ⌝ }
+{
+    match decode::decode(word) {
+        Decoded::Accepted(record) => {
+            let body = record.body;
+            let columns = columns::columns_of(body);
+            put_record_line(out, at, labels::label_of(word), record.source, columns)
+        }
+        Decoded::Refused(refusal) => put_refused_line(out, at, refusal),
+    }
+}
+
+// The line of a verdict.
+fn put_verdict_line(out: &mut [u8], at: usize, verdict: Verdict) -> usize
+    ensures { λ r. ⌜ Writes (now (out .entry)) at (verdictLine verdict) (now (out .exit)) r ⌝ }
+{
+    match verdict {
+        Verdict::Agrees => text::put_text(out, at, b"figure agrees\n"),
+        Verdict::Differs => text::put_text(out, at, b"figure differs\n"),
+        Verdict::Unmatched => text::put_text(out, at, b"figure unmatched\n"),
+    }
+}
+
+// The line of a figure of this label, in millionths, by the field just before it in its group.
+pub fn put_figure_line(
+    out: &mut [u8],
+    at: usize,
+    previous: Previous,
+    label: u8,
+    millionths: i64,
+) -> usize
+    ensures { λ r. ⌜ Writes (now (out .entry)) at (verdictLine (verdictOf previous label millionths)) (now (out .exit)) r ⌝ }
+{
+    put_verdict_line(out, at, verdicts::verdict_of(previous, label, millionths))
+}
+
+// The last line: how many words there are, and how many of them are refused.
+pub fn put_total_line(out: &mut [u8], at: usize, words: u64, refused: u64) -> usize
+    ensures { λ r. ⌜ Writes (now (out .entry)) at (totalLine words refused) (now (out .exit)) r ⌝ }
+{
+    let middle = text::put_named(out, at, b"words ", words);
+    let end = text::put_named(out, middle, b" refused ", refused);
+    text::put_byte(out, end, 10)
+}
+
+// The line of a refused sheet, with the offset of the refusal.
+pub fn put_refusal_line(out: &mut [u8], at: usize, refusal: Refusal, place: usize) -> usize
+    ensures { λ r. ⌜ Writes (now (out .entry)) at (refusalLine refusal place) (now (out .exit)) r ⌝ }
+{
+    let middle = text::put_named(out, at, b"sheet refused ", records::number(refusal) as u64);
+    let end = text::put_named(out, middle, b" at ", place as u64);
+    text::put_byte(out, end, 10)
+}

@@ -1,0 +1,28 @@
+// Lists the sheet that standard input holds, to standard output.
+use libc::STDIN_FILENO;
+use libc::STDOUT_FILENO;
+use listing::Listed;
+ghost use mathlib.Core.Path.{_≡_};
+ghost use lib.ListN.{take};
+ghost use Rattle.io.specs.Counts.{Counts};
+ghost use Rattle.listing.specs.Listing.{textOf};
+
+// Puts the listing of a sheet into a buffer that has room for that of every sheet, and gives its length.
+fn list_whole(sheet: &[u8], text: &mut [u8; 131072]) -> usize
+    ensures { λ r. ⌜ Counts r (now (text .exit)) ⌝ }
+    ensures { λ r. ⌜ take r (now (text .exit)) ≡ textOf (now (sheet .entry)) ⌝ }
+{
+    match listing::list_sheet(sheet, text) {
+        Listed::Length(length) => length,
+        Listed::Refused(_) => 0,
+    }
+}
+
+// The input is read to one byte past the longest sheet, so that a longer one is refused as such.
+fn main() {
+    let mut sheet = [0u8; 32769];
+    let mut text = [0u8; 131072];
+    let read = io::read_full(STDIN_FILENO, &mut sheet);
+    let length = list_whole(&sheet[..read], &mut text);
+    io::write_all(STDOUT_FILENO, &text[..length]);
+}

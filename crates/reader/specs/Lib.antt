@@ -1,0 +1,2 @@
+-- What a reader gives. Assumes nothing.
+pub mod Fields

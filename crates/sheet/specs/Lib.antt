@@ -1,0 +1,3 @@
+-- Checking a sheet. Assumes nothing.
+pub mod Checked
+pub mod Steps

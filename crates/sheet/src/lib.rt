@@ -1,0 +1,99 @@
+// Checking a sheet: whether it is legal, else its first refusal with the offset of the field's tag.
+use fields::FieldKind;
+use fields::Start;
+use records::Refusal;
+ghost use mathlib.Core.Path.{_≡_};
+ghost use Prim.Native.Nat.{_+_, _≤_, _<_};
+ghost use lib.ListN.{length};
+ghost use Rattle.fields.specs.Run.{runOf, sheetOf, insideOf};
+ghost use Rattle.sheet.specs.Checked.{checkedOf, afterInside, fieldOf};
+
+// What the check of a run of bytes says.
+pub enum Checked {
+    // Every field may stand where it stands.
+    Legal,
+    // The first refusal: number 9, 10, 11, 12 or 15 of document 01, and the offset of the field's tag.
+    Refused(Refusal, usize),
+}
+
+// What the check of one field, with its inside, says.
+enum FieldChecked {
+    // No byte is left.
+    End,
+    // The field is legal, and the run goes on at this place.
+    Next(usize),
+    // The first refusal in the field.
+    Refused(Refusal, usize),
+}
+
+// A field goes on past its content once its inside is legal.
+fn after_inside(inside: Checked, next: usize) -> FieldChecked
+    ensures { λ r. ⌜ r ≡ afterInside inside next ⌝ }
+{
+    match inside {
+        Checked::Legal => FieldChecked::Next(next),
+        Checked::Refused(refusal, place) => FieldChecked::Refused(refusal, place),
+    }
+}
+
+// The check of the field at a place in a run whose first byte has this offset.
+fn check_field(run: &[u8], at: usize, offset: usize, depth: u8) -> FieldChecked
+    requires { ⌜ (at ≤ length (now run)) × (offset + length (now run) < 18446744073709551616) ⌝ }
+    ensures { λ r. ⌜ r ≡ fieldOf depth offset at (now (run .entry)) ⌝ }
+{
+    let place = offset + at;
+    match fields::start_at(run, at, depth) {
+        Start::End => FieldChecked::End,
+        Start::Refused(refusal) => FieldChecked::Refused(refusal, place),
+        Start::Field(kind, length) => {
+            let from = at + 3;
+            let next = from + length;
+            match kind {
+                FieldKind::Word => FieldChecked::Next(next),
+                FieldKind::Figure => FieldChecked::Next(next),
+                FieldKind::Note => FieldChecked::Next(next),
+                FieldKind::Group => {
+                    after_inside(check_run(&run[from..next], place + 3, depth + 1), next)
+                }
+            }
+        }
+    }
+}
+
+// The check of a run of fields at a depth, whose first byte has this offset.
+fn check_run(run: &[u8], offset: usize, depth: u8) -> Checked
+    requires { ⌜ offset + length (now run) < 18446744073709551616 ⌝ }
+    ensures { λ r. ⌜ r ≡ checkedOf (runOf depth offset (now (run .entry))) ⌝ }
+{
+    let mut at: usize = 0;
+    loop {
+        match check_field(run, at, offset, depth) {
+            FieldChecked::End => {
+                return Checked::Legal;
+            }
+            FieldChecked::Refused(refusal, place) => {
+                return Checked::Refused(refusal, place);
+            }
+            FieldChecked::Next(next) => {
+                at = next;
+            }
+        }
+    }
+}
+
+// Whether a sheet is legal, else its refusal: 15 first, then the first from the left.
+pub fn check_sheet(sheet: &[u8]) -> Checked
+    ensures { λ r. ⌜ r ≡ checkedOf (sheetOf (now (sheet .entry))) ⌝ }
+{
+    if 32768 < sheet.len() {
+        return Checked::Refused(Refusal::Oversize, 0);
+    }
+    check_run(sheet, 0, 1)
+}
+
+// Whether a run of bytes may be the inside of a top group, else its first refusal, with the offset in the run.
+pub fn check_inside(run: &[u8]) -> Checked
+    ensures { λ r. ⌜ r ≡ checkedOf (insideOf (now (run .entry))) ⌝ }
+{
+    check_run(run, 0, 2)
+}

@@ -1,0 +1,6 @@
+-- Writing a field. Assumes nothing.
+pub mod Write
+pub mod Answers
+pub mod OneField
+pub mod Buffer
+pub mod Added

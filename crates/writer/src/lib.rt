@@ -1,0 +1,117 @@
+// Writing one field of a sheet at a place of a buffer.
+use records::Refusal;
+use sheet::Checked;
+ghost use mathlib.Core.Path.{_≡_};
+ghost use mathlib.Core.List.{_++_};
+ghost use Prim.Native.Nat.{_+_, _≤_};
+ghost use lib.ListN.{length, take, drop};
+ghost use lib.Seq.{paste};
+ghost use Rattle.fields.specs.declared.FieldKind.{FieldKind};
+ghost use Rattle.contents.specs.Contents.{wordBytes, figureBytes};
+ghost use Rattle.writer.specs.Write.{tagged, answerOf, put, writeOf, groupOf};
+
+// What came of writing a field.
+pub enum Written {
+    // It stands in the buffer, and the place after it is this.
+    End(usize),
+    // The refusal, with nothing written: 13 or 15 with 0, or what a group's run is refused, 9 to 12, with the offset in the run.
+    Refused(Refusal, usize),
+}
+
+// The most bytes a sheet may have.
+const SHEET_LIMIT: usize = 32768;
+
+// Whether a content of this length can stand at a place of a buffer of `room` bytes.
+fn end_of(room: usize, place: usize, length: usize) -> Written
+    ensures { λ r. ⌜ r ≡ answerOf room place length ⌝ }
+{
+    if SHEET_LIMIT < place {
+        return Written::Refused(Refusal::Oversize, 0);
+    }
+    if SHEET_LIMIT < length {
+        return Written::Refused(Refusal::Oversize, 0);
+    }
+    let end = place + 3 + length;
+    if SHEET_LIMIT < end {
+        return Written::Refused(Refusal::Oversize, 0);
+    }
+    if room < end {
+        return Written::Refused(Refusal::Room, 0);
+    }
+    Written::End(end)
+}
+
+// Copies the content into the buffer from a place on.
+fn copy_to(out: &mut [u8], at: usize, content: &[u8])
+    requires { ⌜ at + length (now content) ≤ length (now out) ⌝ }
+    ensures { λ _. ⌜ now (out .exit) ≡ paste (now (out .entry)) at (now (content .entry)) (length (now (content .entry))) ⌝ }
+{
+    let mut i = 0;
+    while i < content.len() {
+        out[at + i] = content[i];
+        i += 1;
+    }
+}
+
+// Stores a tag, a length, high byte first, and the content.
+fn store(out: &mut [u8], place: usize, tag: u8, content: &[u8])
+    requires { ⌜ place + 3 + length (now content) ≤ length (now out) ⌝ }
+    ensures { λ _. ⌜ now (out .exit) ≡ take place (now (out .entry)) ++ tagged tag (now (content .entry)) ++ drop (place + 3 + length (now (content .entry))) (now (out .entry)) ⌝ }
+{
+    let length = content.len();
+    out[place] = tag;
+    out[place + 1] = (length / 256 % 256) as u8;
+    out[place + 2] = (length % 256) as u8;
+    copy_to(out, place + 3, content);
+}
+
+// Stores a tag, a length and the content, where they fit.
+fn put_field(out: &mut [u8], place: usize, tag: u8, content: &[u8]) -> Written
+    ensures { λ r. ⌜ r ≡ put (now (out .entry)) place tag (now (content .entry)) .answer ⌝ }
+    ensures { λ _. ⌜ now (out .exit) ≡ put (now (out .entry)) place tag (now (content .entry)) .buffer ⌝ }
+{
+    match end_of(out.len(), place, content.len()) {
+        Written::End(end) => {
+            store(out, place, tag, content);
+            Written::End(end)
+        }
+        Written::Refused(refusal, offset) => Written::Refused(refusal, offset),
+    }
+}
+
+// Writes a word field.
+pub fn write_word(out: &mut [u8], place: usize, word: u32) -> Written
+    ensures { λ r. ⌜ r ≡ writeOf (now (out .entry)) place FieldKind.Word (wordBytes word) .answer ⌝ }
+    ensures { λ _. ⌜ now (out .exit) ≡ writeOf (now (out .entry)) place FieldKind.Word (wordBytes word) .buffer ⌝ }
+{
+    let content = contents::word_bytes(word);
+    put_field(out, place, 0x10, &content)
+}
+
+// Writes a figure field: a label and millionths.
+pub fn write_figure(out: &mut [u8], place: usize, label: u8, millionths: i64) -> Written
+    ensures { λ r. ⌜ r ≡ writeOf (now (out .entry)) place FieldKind.Figure (figureBytes label millionths) .answer ⌝ }
+    ensures { λ _. ⌜ now (out .exit) ≡ writeOf (now (out .entry)) place FieldKind.Figure (figureBytes label millionths) .buffer ⌝ }
+{
+    let content = contents::figure_bytes(label, millionths);
+    put_field(out, place, 0x11, &content)
+}
+
+// Writes a note field.
+pub fn write_note(out: &mut [u8], place: usize, text: &[u8]) -> Written
+    ensures { λ r. ⌜ r ≡ writeOf (now (out .entry)) place FieldKind.Note (now (text .entry)) .answer ⌝ }
+    ensures { λ _. ⌜ now (out .exit) ≡ writeOf (now (out .entry)) place FieldKind.Note (now (text .entry)) .buffer ⌝ }
+{
+    put_field(out, place, 0x12, text)
+}
+
+// Writes a group field of a run of bytes, which is checked first as the inside of a top group.
+pub fn write_group(out: &mut [u8], place: usize, run: &[u8]) -> Written
+    ensures { λ r. ⌜ r ≡ groupOf (now (out .entry)) place (now (run .entry)) .answer ⌝ }
+    ensures { λ _. ⌜ now (out .exit) ≡ groupOf (now (out .entry)) place (now (run .entry)) .buffer ⌝ }
+{
+    match sheet::check_inside(run) {
+        Checked::Legal => put_field(out, place, 0x20, run),
+        Checked::Refused(refusal, offset) => Written::Refused(refusal, offset),
+    }
+}

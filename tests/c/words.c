@@ -1,0 +1,430 @@
+/*
+ * The word part of the library, called from C and from C++: the layout of its structures, document 01's lines, and the files of test vectors that
+ * are named on the command line, line by line: words*, joins*, and any other name for figures.
+ */
+#include "lampcygnet.h"
+
+#include <stddef.h>
+#include <stdio.h>
+#include <stdlib.h>
+#include <string.h>
+
+static long checks = 0;
+static long wrong = 0;
+
+static void expect(int holds, const char *what, long line)
+{
+    checks++;
+    if (!holds) {
+        wrong++;
+        printf("wrong: %s (%ld)\n", what, line);
+    }
+}
+
+#define EXPECT(condition) expect((condition) ? 1 : 0, #condition, (long)__LINE__)
+
+static void test_layout(void)
+{
+    EXPECT(sizeof(struct lampcygnet_record) == 20);
+    EXPECT(offsetof(struct lampcygnet_record, word_number) == 10);
+    EXPECT(offsetof(struct lampcygnet_record, count) == 12);
+    EXPECT(offsetof(struct lampcygnet_record, value) == 16);
+    EXPECT(sizeof(struct lampcygnet_word) == 8);
+    EXPECT(offsetof(struct lampcygnet_word, word) == 4);
+    EXPECT(sizeof(struct lampcygnet_reading) == 24);
+    EXPECT(offsetof(struct lampcygnet_reading, whole) == 8);
+    EXPECT(offsetof(struct lampcygnet_reading, value) == 16);
+    EXPECT(sizeof(struct lampcygnet_point) == 24);
+    EXPECT(offsetof(struct lampcygnet_point, glide) == 16);
+    EXPECT(sizeof(struct lampcygnet_millionths) == 16);
+    EXPECT(offsetof(struct lampcygnet_millionths, millionths) == 8);
+    EXPECT(sizeof(struct lampcygnet_partial) == 16);
+    EXPECT(offsetof(struct lampcygnet_partial, bits) == 8);
+    EXPECT(sizeof(struct lampcygnet_step) == 32);
+    EXPECT(offsetof(struct lampcygnet_step, refusal) == 16);
+    EXPECT(offsetof(struct lampcygnet_step, parity_good) == 18);
+    EXPECT(offsetof(struct lampcygnet_step, bits) == 24);
+}
+
+static int is_blank(struct lampcygnet_record r)
+{
+    return r.kind == 0 && r.source == 0 && r.status == 0 && r.marker == 0 && r.category == 0 && r.inhibit == 0 && r.clearance == 0 && r.manual == 0
+        && r.parity_good == 0 && r.word_number == 0 && r.count == 0 && r.value == 0;
+}
+
+/* A refused word has no record; an accepted one is encoded to itself. */
+static struct lampcygnet_record decoded(uint32_t word)
+{
+    struct lampcygnet_record r = lampcygnet_decode(word);
+    if (r.refusal != LAMPCYGNET_ACCEPTED) {
+        EXPECT(is_blank(r));
+    } else {
+        struct lampcygnet_word w = lampcygnet_encode(r);
+        EXPECT(w.refusal == LAMPCYGNET_ACCEPTED);
+        EXPECT(w.word == word);
+    }
+    return r;
+}
+
+static void test_decoding(void)
+{
+    struct lampcygnet_record r = decoded(UINT32_C(0xE8000049));
+    EXPECT(r.kind == LAMPCYGNET_KIND_VOR_AZIMUTH && r.source == 0 && r.status == LAMPCYGNET_STATUS_READY && r.count == 2048);
+    r = decoded(UINT32_C(0xFC000049));
+    EXPECT(r.kind == LAMPCYGNET_KIND_VOR_AZIMUTH && r.count == -1024);
+    r = decoded(UINT32_C(0x640000DE));
+    EXPECT(r.kind == LAMPCYGNET_KIND_ILS_COURSE && r.count == 1024);
+    r = decoded(UINT32_C(0x7FFF00DE));
+    EXPECT(r.kind == LAMPCYGNET_KIND_ILS_COURSE && r.count == -1);
+    r = decoded(UINT32_C(0x04C80038));
+    EXPECT(r.kind == LAMPCYGNET_KIND_VOR_FREQUENCY && r.value == 11320 && r.status == LAMPCYGNET_STATUS_READY);
+    r = decoded(UINT32_C(0x841C0078));
+    EXPECT(r.kind == LAMPCYGNET_KIND_MLS_FREQUENCY && r.value == 509070);
+    r = decoded(UINT32_C(0xEB3C00D6));
+    EXPECT(r.kind == LAMPCYGNET_KIND_SELECTED_AZIMUTH && r.value == 359 && r.manual == 1);
+    r = decoded(UINT32_C(0x69400036));
+    EXPECT(r.kind == LAMPCYGNET_KIND_GREATEST_GLIDE_ANGLE && r.value == 40);
+    EXPECT(decoded(UINT32_C(0xEB4400D6)).refusal == LAMPCYGNET_REFUSED_VALUE);
+    EXPECT(decoded(UINT32_C(0xE1400036)).refusal == LAMPCYGNET_REFUSED_ANGLE_PARITY);
+    EXPECT(decoded(UINT32_C(0xE8000048)).refusal == LAMPCYGNET_REFUSED_PARITY);
+}
+
+/* A legal record of each kind, with every field that the kind has. */
+static struct lampcygnet_record example(uint8_t kind)
+{
+    struct lampcygnet_record r;
+    memset(&r, 0, sizeof r);
+    r.kind = kind;
+    r.source = 2;
+    if (kind < LAMPCYGNET_KIND_PART_1) {
+        r.status = LAMPCYGNET_STATUS_TEST;
+    }
+    switch (kind) {
+    case LAMPCYGNET_KIND_VOR_AZIMUTH:
+        r.marker = LAMPCYGNET_MARKER_INNER;
+        r.count = -4096;
+        break;
+    case LAMPCYGNET_KIND_VOR_FREQUENCY:
+        r.value = 11795;
+        break;
+    case LAMPCYGNET_KIND_ILS_COURSE:
+    case LAMPCYGNET_KIND_ILS_GLIDE:
+        r.inhibit = 1;
+        r.count = 4095;
+        break;
+    case LAMPCYGNET_KIND_ILS_FREQUENCY:
+        r.category = LAMPCYGNET_CATEGORY_II;
+        r.value = 11030;
+        break;
+    case LAMPCYGNET_KIND_MLS_FREQUENCY:
+        r.value = 503100;
+        break;
+    case LAMPCYGNET_KIND_MLS_AZIMUTH_DEVIATION:
+        r.inhibit = 1;
+        r.count = -32768;
+        break;
+    case LAMPCYGNET_KIND_MLS_GLIDE_DEVIATION:
+        r.clearance = 1;
+        r.count = 32767;
+        break;
+    case LAMPCYGNET_KIND_SELECTED_AZIMUTH:
+        r.manual = 1;
+        r.value = 359;
+        break;
+    case LAMPCYGNET_KIND_GREATEST_GLIDE_ANGLE:
+        r.value = 255;
+        break;
+    case LAMPCYGNET_KIND_SELECTED_GLIDE_ANGLE:
+        r.manual = 1;
+        r.value = 511;
+        break;
+    case LAMPCYGNET_KIND_PART_1:
+        r.word_number = 0xA5;
+        r.value = 0x5A;
+        break;
+    case LAMPCYGNET_KIND_PART_4:
+        r.parity_good = 1;
+        r.value = 0xC0DE;
+        break;
+    default:
+        r.value = 0xBEEF;
+        break;
+    }
+    return r;
+}
+
+static int is_same(struct lampcygnet_record a, struct lampcygnet_record b)
+{
+    return a.refusal == b.refusal && a.kind == b.kind && a.source == b.source && a.status == b.status && a.marker == b.marker
+        && a.category == b.category && a.inhibit == b.inhibit && a.clearance == b.clearance && a.manual == b.manual && a.parity_good == b.parity_good
+        && a.word_number == b.word_number && a.count == b.count && a.value == b.value;
+}
+
+static void test_encoding(void)
+{
+    struct lampcygnet_record r;
+    struct lampcygnet_record s;
+    struct lampcygnet_word w;
+    int kind;
+    for (kind = LAMPCYGNET_KIND_VOR_AZIMUTH; kind <= LAMPCYGNET_KIND_PART_4; kind++) {
+        r = example((uint8_t)kind);
+        w = lampcygnet_encode(r);
+        EXPECT(w.refusal == LAMPCYGNET_ACCEPTED);
+        EXPECT(is_same(decoded(w.word), r));
+        /* the source is a code, and 4 comes before 6 */
+        r.source = 4;
+        r.value = 0xFFFFFFFF;
+        w = lampcygnet_encode(r);
+        EXPECT(w.refusal == LAMPCYGNET_REFUSED_CODE && w.word == 0);
+    }
+    for (kind = LAMPCYGNET_KIND_VOR_AZIMUTH; kind < LAMPCYGNET_KIND_PART_1; kind++) {
+        r = example((uint8_t)kind);
+        r.status = 0;
+        EXPECT(lampcygnet_encode(r).refusal == LAMPCYGNET_REFUSED_CODE);
+        r.status = 5;
+        EXPECT(lampcygnet_encode(r).refusal == LAMPCYGNET_REFUSED_CODE);
+    }
+    for (kind = LAMPCYGNET_KIND_SELECTED_AZIMUTH; kind <= LAMPCYGNET_KIND_PART_4; kind++) {
+        r = example((uint8_t)kind);
+        r.value = 65536;
+        EXPECT(lampcygnet_encode(r).refusal == LAMPCYGNET_REFUSED_VALUE);
+    }
+    r = example(LAMPCYGNET_KIND_VOR_AZIMUTH);
+    r.kind = 0;
+    EXPECT(lampcygnet_encode(r).refusal == LAMPCYGNET_REFUSED_LABEL);
+    r.kind = 16;
+    r.source = 9;
+    EXPECT(lampcygnet_encode(r).refusal == LAMPCYGNET_REFUSED_LABEL);
+    r = example(LAMPCYGNET_KIND_VOR_AZIMUTH);
+    r.marker = 3;
+    EXPECT(lampcygnet_encode(r).refusal == LAMPCYGNET_REFUSED_CODE);
+    r = example(LAMPCYGNET_KIND_VOR_AZIMUTH);
+    r.count = 4096;
+    EXPECT(lampcygnet_encode(r).refusal == LAMPCYGNET_REFUSED_VALUE);
+    r.count = 4095;
+    r.value = 77; /* not looked at */
+    r.category = 9;
+    r.refusal = 3;
+    w = lampcygnet_encode(r);
+    EXPECT(w.refusal == LAMPCYGNET_ACCEPTED);
+    s = decoded(w.word);
+    EXPECT(s.count == 4095 && s.value == 0 && s.category == 0);
+    r = example(LAMPCYGNET_KIND_ILS_FREQUENCY);
+    r.status = LAMPCYGNET_STATUS_FAILURE;
+    r.value = 1;
+    EXPECT(lampcygnet_encode(r).refusal == LAMPCYGNET_REFUSED_CODE);
+    r.status = LAMPCYGNET_STATUS_READY;
+    EXPECT(lampcygnet_encode(r).refusal == LAMPCYGNET_REFUSED_VALUE);
+    r.category = 4;
+    EXPECT(lampcygnet_encode(r).refusal == LAMPCYGNET_REFUSED_CODE);
+    r = example(LAMPCYGNET_KIND_PART_1);
+    r.value = 256;
+    EXPECT(lampcygnet_encode(r).refusal == LAMPCYGNET_REFUSED_VALUE);
+}
+
+static void test_readings(void)
+{
+    struct lampcygnet_reading r = lampcygnet_reading_of(UINT32_C(0xE8000049));
+    struct lampcygnet_point p;
+    EXPECT(r.refusal == 0 && r.shown == LAMPCYGNET_SHOWN_READY && r.unit == LAMPCYGNET_UNIT_DEGREES && r.value == 90.0 && r.whole == 0);
+    EXPECT(lampcygnet_reading_of(UINT32_C(0xFC000049)).value == -45.0);
+    r = lampcygnet_reading_of(UINT32_C(0x640000DE));
+    EXPECT(r.unit == LAMPCYGNET_UNIT_DEPTH_DIFFERENCE && r.value == 0.1);
+    r = lampcygnet_reading_of(UINT32_C(0xC40000DE));
+    EXPECT(r.shown == LAMPCYGNET_SHOWN_TEST && r.value == 0.1);
+    r = lampcygnet_reading_of(UINT32_C(0x040000DE));
+    EXPECT(r.refusal == 0 && r.shown == LAMPCYGNET_SHOWN_NONE && r.unit == LAMPCYGNET_UNIT_NONE && r.value == 0.0);
+    r = lampcygnet_reading_of(UINT32_C(0x60002096));
+    EXPECT(r.unit == LAMPCYGNET_UNIT_NANOVOLTS && r.whole == 73200 && r.value == 0.0);
+    r = lampcygnet_reading_of(UINT32_C(0x04C80038));
+    EXPECT(r.unit == LAMPCYGNET_UNIT_TENS_OF_KHZ && r.whole == 11320);
+    r = lampcygnet_reading_of(UINT32_C(0xEB3C00D6));
+    EXPECT(r.unit == LAMPCYGNET_UNIT_SELECTED_DEGREES && r.whole == 359 && r.manual == 1);
+    r = lampcygnet_reading_of(UINT32_C(0x69400036));
+    EXPECT(r.unit == LAMPCYGNET_UNIT_GREATEST_TENTHS && r.whole == 40 && r.manual == 0);
+    r = lampcygnet_reading_of(UINT32_C(0xE8000048));
+    EXPECT(r.refusal == LAMPCYGNET_REFUSED_PARITY && r.shown == 0 && r.unit == 0 && r.whole == 0 && r.value == 0.0);
+
+    p = lampcygnet_chart_point(lampcygnet_code_figure(0173, 1, 100000).word, lampcygnet_code_figure(0174, 1, -200000).word);
+    EXPECT(p.refusal == 0 && p.course == 0.1 && p.glide == -0.2);
+    p = lampcygnet_chart_point(lampcygnet_code_figure(0174, 1, -200000).word, lampcygnet_code_figure(0173, 1, 100000).word);
+    EXPECT(p.refusal == LAMPCYGNET_REFUSED_LABEL && p.course == 0.0 && p.glide == 0.0);
+    EXPECT(lampcygnet_chart_point(lampcygnet_code_figure(0173, 1, 0).word, lampcygnet_code_figure(0174, 2, 0).word).refusal == LAMPCYGNET_REFUSED_CODE);
+    EXPECT(lampcygnet_chart_point(UINT32_C(0xE8000048), 0).refusal == LAMPCYGNET_REFUSED_PARITY);
+    EXPECT(lampcygnet_chart_point(UINT32_C(0x040000DE), lampcygnet_code_figure(0174, 0, 0).word).refusal == LAMPCYGNET_REFUSED_REACH);
+}
+
+static int codes_to(uint32_t label, int64_t millionths, int16_t count)
+{
+    struct lampcygnet_word w = lampcygnet_code_figure(label, 3, millionths);
+    struct lampcygnet_record r = lampcygnet_decode(w.word);
+    return w.refusal == 0 && r.refusal == 0 && r.source == 3 && r.status == LAMPCYGNET_STATUS_READY && r.count == count
+        && lampcygnet_agrees(w.word, millionths);
+}
+
+static void test_figures(void)
+{
+    static const uint32_t labels[5] = {0222, 0173, 0174, 0151, 0152};
+    int i;
+    long count;
+    EXPECT(codes_to(0173, 399951, 4095) && codes_to(0173, -400048, -4096));
+    EXPECT(lampcygnet_code_figure(0173, 0, 399952).refusal == LAMPCYGNET_REFUSED_REACH);
+    EXPECT(lampcygnet_code_figure(0173, 0, -400049).refusal == LAMPCYGNET_REFUSED_REACH);
+    EXPECT(codes_to(0174, 799902, 4095));
+    EXPECT(lampcygnet_code_figure(0174, 0, 799903).refusal == LAMPCYGNET_REFUSED_REACH);
+    EXPECT(codes_to(0151, 36600, 0) && codes_to(0151, 109800, 2) && codes_to(0152, INT64_C(2398581000), 32767));
+    EXPECT(lampcygnet_code_figure(0152, 0, INT64_C(2398581001)).refusal == LAMPCYGNET_REFUSED_REACH);
+    EXPECT(codes_to(0222, 179980000, -4096) && codes_to(0222, 180000000, -4096) && codes_to(0222, 315000000, -1024));
+    EXPECT(lampcygnet_code_figure(0222, 0, 360000000).refusal == LAMPCYGNET_REFUSED_REACH);
+    EXPECT(lampcygnet_code_figure(0222, 0, INT64_MIN).refusal == LAMPCYGNET_REFUSED_REACH);
+    EXPECT(lampcygnet_code_figure(0222, 4, INT64_MIN).refusal == LAMPCYGNET_REFUSED_CODE);
+    EXPECT(lampcygnet_code_figure(0222, 256, 0).refusal == LAMPCYGNET_REFUSED_CODE);
+    EXPECT(lampcygnet_code_figure(0222 + 256, 9, 0).refusal == LAMPCYGNET_REFUSED_LABEL);
+    EXPECT(lampcygnet_code_figure(0034, 9, 0).refusal == LAMPCYGNET_REFUSED_LABEL);
+    EXPECT(lampcygnet_print_count(0173, -1).millionths == -98);
+    EXPECT(lampcygnet_print_count(0222, 8).millionths == 351562 && lampcygnet_print_count(0222, 24).millionths == 1054688);
+    EXPECT(lampcygnet_print_count(0034, 0).refusal == LAMPCYGNET_REFUSED_LABEL);
+    EXPECT(lampcygnet_print_count(0222, 4096).refusal == LAMPCYGNET_REFUSED_VALUE);
+    EXPECT(lampcygnet_print_count(0151, 32768).refusal == LAMPCYGNET_REFUSED_VALUE);
+    EXPECT(lampcygnet_print_count(0151, INT64_MIN).refusal == LAMPCYGNET_REFUSED_VALUE);
+    EXPECT(lampcygnet_print_count(0151, INT64_MIN).millionths == 0);
+    EXPECT(!lampcygnet_agrees(UINT32_C(0x640000DE), 1000000) && lampcygnet_agrees(UINT32_C(0x640000DE), 100000));
+    EXPECT(!lampcygnet_agrees(UINT32_C(0x640000DF), 100000) && !lampcygnet_agrees(UINT32_C(0x04C80038), 0));
+    /* every legal count, printed, is coded back */
+    for (i = 0; i < 5; i++) {
+        long last = labels[i] == 0151 || labels[i] == 0152 ? 32768 : 4096;
+        for (count = -last; count < last; count++) {
+            struct lampcygnet_millionths m = lampcygnet_print_count(labels[i], count);
+            EXPECT(m.refusal == 0 && codes_to(labels[i], m.millionths, (int16_t)count));
+        }
+    }
+}
+
+static void test_reassembly(void)
+{
+    static const uint32_t words[4] = {UINT32_C(0x1FFC0306), UINT32_C(0xBFFFE386), UINT32_C(0xD09F2346), UINT32_C(0x724B07C6)};
+    struct lampcygnet_partial held = {0, 0, 0};
+    struct lampcygnet_step s;
+    int i;
+    for (i = 0; i < 3; i++) {
+        s = lampcygnet_reassemble(held, words[i]);
+        EXPECT(s.refusal == 0 && s.complete == 0 && s.bits == 0 && s.parity_good == 0);
+        EXPECT(s.next.parts == i + 1 && s.next.source == 3);
+        /* a refused word changes nothing */
+        held = lampcygnet_reassemble(s.next, UINT32_C(0xE8000048)).next;
+        EXPECT(held.parts == s.next.parts && held.source == s.next.source && held.bits == s.next.bits);
+        EXPECT(lampcygnet_reassemble(s.next, UINT32_C(0xE8000049)).refusal == LAMPCYGNET_REFUSED_LABEL);
+    }
+    EXPECT(held.bits == (UINT64_C(10545324736764706784) & UINT64_C(0xFFFFFFFFFFFF)));
+    s = lampcygnet_reassemble(held, words[3]);
+    EXPECT(s.refusal == 0 && s.complete == 1 && s.parity_good == 1 && s.bits == UINT64_C(10545324736764706784));
+    EXPECT(s.next.parts == 0 && s.next.source == 0 && s.next.bits == 0);
+    s = lampcygnet_reassemble(s.next, words[3]);
+    EXPECT(s.refusal == LAMPCYGNET_REFUSED_SEQUENCE && s.complete == 0 && s.bits == 0 && s.next.parts == 0);
+    held.parts = 200; /* holds nothing */
+    EXPECT(lampcygnet_reassemble(held, words[3]).refusal == LAMPCYGNET_REFUSED_SEQUENCE);
+    held.parts = 3;
+    held.source = 2;
+    s = lampcygnet_reassemble(held, words[3]);
+    EXPECT(s.refusal == LAMPCYGNET_REFUSED_SEQUENCE && s.next.parts == 0 && s.next.bits == 0);
+}
+
+/* A word in hexadecimal, the number of its refusal, its count. */
+static void word_line(const char *text, long line)
+{
+    unsigned long word;
+    unsigned refusal;
+    int count;
+    struct lampcygnet_record r;
+    if (sscanf(text, "%lx %u %d", &word, &refusal, &count) != 3) {
+        expect(0, "a line that cannot be read", line);
+        return;
+    }
+    r = decoded((uint32_t)word);
+    expect(r.refusal == refusal, "refusal", line);
+    expect(r.count == count, "count", line);
+}
+
+/* A label in octal, a source, a figure, and a word in hexadecimal or `refused` and its number. */
+static void figure_line(const char *text, long line)
+{
+    unsigned label;
+    unsigned source;
+    long long figure;
+    char answer[16];
+    unsigned refusal = 0;
+    struct lampcygnet_word w;
+    if (sscanf(text, "%o %u %lld %15s %u", &label, &source, &figure, answer, &refusal) < 4) {
+        expect(0, "a line that cannot be read", line);
+        return;
+    }
+    w = lampcygnet_code_figure(label, source, figure);
+    expect(w.refusal == refusal, "refusal", line);
+    expect(w.word == (refusal == 0 ? strtoul(answer, NULL, 16) : 0), "word", line);
+}
+
+/* A word in hexadecimal, and `begun C` with the parts held, `joined C` with the bits and the mark, or `refused` and its number. */
+static void join_line(struct lampcygnet_partial *held, const char *text, long line)
+{
+    unsigned long word;
+    char answer[8];
+    char rest[64] = "";
+    struct lampcygnet_step s;
+    if (sscanf(text, "%lx %7s %63[^\n]", &word, answer, rest) != 3) {
+        expect(0, "a line that cannot be read", line);
+        return;
+    }
+    s = lampcygnet_reassemble(*held, (uint32_t)word);
+    *held = s.next;
+    if (strcmp(answer, "refused") == 0) {
+        expect(s.refusal == strtoul(rest, NULL, 10) && s.complete == 0, "refusal", line);
+    } else if (strcmp(answer, "begun") == 0) {
+        expect(s.refusal == 0 && s.complete == 0 && s.next.parts == strtoul(rest + 2, NULL, 10), "parts", line);
+    } else {
+        char *end;
+        expect(s.refusal == 0 && s.complete == 1 && s.bits == strtoull(rest + 2, &end, 10), "bits", line);
+        expect(s.parity_good == (strncmp(end, " True", 5) == 0), "parity", line);
+    }
+}
+
+static void run_file(const char *path)
+{
+    char text[128];
+    long line = 0;
+    struct lampcygnet_partial held = {0, 0, 0};
+    const char *slash = strrchr(path, '/');
+    const char *name = slash != NULL ? slash + 1 : path;
+    FILE *file = fopen(path, "r");
+    if (file == NULL) {
+        expect(0, path, 0);
+        return;
+    }
+    while (fgets(text, (int)sizeof text, file) != NULL) {
+        line++;
+        if (strncmp(name, "words", 5) == 0) {
+            word_line(text, line);
+        } else if (strncmp(name, "joins", 5) == 0) {
+            join_line(&held, text, line);
+        } else {
+            figure_line(text, line);
+        }
+    }
+    fclose(file);
+    printf("%s: %ld lines\n", name, line);
+}
+
+int main(int argc, char **argv)
+{
+    int i;
+    test_layout();
+    test_decoding();
+    test_encoding();
+    test_readings();
+    test_figures();
+    test_reassembly();
+    for (i = 1; i < argc; i++) {
+        run_file(argv[i]);
+    }
+    printf("%ld checks, %ld wrong\n", checks, wrong);
+    return wrong == 0 ? 0 : 1;
+}
