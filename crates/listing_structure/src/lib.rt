@@ -1,0 +1,1 @@
+// The listing by the sheet's groups, and its lines counted: the statements and their proofs are in specs/.
