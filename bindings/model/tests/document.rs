@@ -181,17 +181,17 @@ fn parts_out_of_sequence() {
     let three = word(1, Body::Part3 { content: 0x9ABC });
     let four = word(1, Body::Part4 { parity: true, content: 0xDEF0 });
     assert_eq!(step(None, two), (None, Answer::Refused(14)));
-    let (begun, answer) = step(None, one);
+    let (held, answer) = step(None, one);
     assert_eq!(answer, Answer::Taken(1));
     // A wrong word of the next part, its bits 31 and 30 exchanged, is 4 and changes nothing.
-    assert_eq!(step(begun.clone(), two ^ 3 << 29), (begun.clone(), Answer::Refused(4)));
-    assert_eq!(step(begun.clone(), 0x6400_00DE), (begun.clone(), Answer::Refused(2)));
-    assert_eq!(step(begun.clone(), three), (None, Answer::Refused(14)));
+    assert_eq!(step(held.clone(), two ^ 3 << 29), (held.clone(), Answer::Refused(4)));
+    assert_eq!(step(held.clone(), 0x6400_00DE), (held.clone(), Answer::Refused(2)));
+    assert_eq!(step(held.clone(), three), (None, Answer::Refused(14)));
     let other = word(2, Body::Part2 { content: 0 });
-    assert_eq!(step(begun.clone(), other), (None, Answer::Refused(14)));
-    let (begun, _) = step(begun, two);
-    let (begun, _) = step(begun, three);
-    assert_eq!(step(begun, four), (None, Answer::Whole(0xDEF0_9ABC_5678_3412, true)));
+    assert_eq!(step(held.clone(), other), (None, Answer::Refused(14)));
+    let (held, _) = step(held, two);
+    let (held, _) = step(held, three);
+    assert_eq!(step(held, four), (None, Answer::Whole(0xDEF0_9ABC_5678_3412, true)));
 }
 
 #[test]

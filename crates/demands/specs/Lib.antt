@@ -1,3 +1,5 @@
+pub mod Demands
+pub mod Inputs
 pub mod Allowed
 pub mod Order
 pub mod Legal
