@@ -1,19 +1,19 @@
 # Two commands do all the set-up: `make demo` and `make test`. Both need the Rattle kit's `rt`; the tests also need a C and C++ compiler and cargo.
-.PHONY: demo test library test-c test-model exhaustive baselines fmt
+.PHONY: demo test library test-c test-model test-rust exhaustive baselines fmt
 
 # Lists the example sheet.
 demo:
 	rt check list
 	@./target/bin/list < examples/flight.sheet
 
-# The gate: layout of the sources; every proof from nothing, every must-fail edit and every program; then the model in Rust and the library from C and C++.
+# The gate: layout of the sources; every proof from nothing, every must-fail edit and every program; then the model in Rust, and the library from C, C++ and Rust beside the model.
 # Its last line is rt ci's own count.
 test: SHELL := /bin/bash
 test:
 	rt fmt --check
 	cmp examples/flight.sheet crates/check_sheets/data/flight/0000.bin
 	cmp examples/flight.txt crates/check_sheets/data/flight/0000.txt
-	@set -o pipefail; log=$$(mktemp) && rt ci 2>&1 | tee "$$log" && $(MAKE) --no-print-directory test-model test-c && tail -n 1 "$$log" && rm -f "$$log"
+	@set -o pipefail; log=$$(mktemp) && rt ci 2>&1 | tee "$$log" && $(MAKE) --no-print-directory test-model test-c test-rust && tail -n 1 "$$log" && rm -f "$$log"
 
 # The static library that include/lampcygnet.h describes: target/staticlib/libcapi.a.
 library:
@@ -27,9 +27,13 @@ test-c: library
 test-model:
 	cd bindings/model && cargo test --offline --quiet
 
-# The model on all 2^32 words: how many get each answer.
-exhaustive:
-	cd bindings/model && cargo run --offline --release --bin exhaustive
+# The Rust crate: its examples, and the library beside the model on all words of every label, on figures and on runs of parts.
+test-rust: library
+	cd bindings/rust && cargo test --offline --quiet
+
+# The library beside the model on all 2^32 words: how many get each answer.
+exhaustive: library
+	cd bindings/rust && cargo run --offline --release --example exhaustive
 
 # Plain C and Rust that do the same work, tested against the model, and their times.
 baselines:

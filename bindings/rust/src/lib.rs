@@ -1,0 +1,27 @@
+//! Words of the GOST 18977 / ARINC 429 bus from VOR, ILS and MLS receivers: a word to its record and its reading, a record
+//! to its word, a printed figure to its word, and the MLS auxiliary data put together from their parts.
+//!
+//! The work is done by a static library in which every function is proved to meet its contract for every input; this crate
+//! gives its numbers Rust's types. Build the library first: `make library` at the root of the repository.
+//!
+//! ```
+//! use lampcygnet::{agrees, decode, Refusal};
+//!
+//! let record = decode(0x640000DE)?;
+//! assert_eq!(record.to_string(), "173 0 ready 0.100000");
+//! assert!(!agrees(0x640000DE, 1_000_000)); // the figure beside it says 1.0
+//! # Ok::<(), Refusal>(())
+//! ```
+
+mod ffi;
+mod figure;
+mod group;
+mod reading;
+mod record;
+mod refusal;
+
+pub use figure::{agrees, code_figure, print_count};
+pub use group::{Group, Reassembler};
+pub use reading::{chart_point, reading, ChartPoint, Reading, Shown};
+pub use record::{decode, Body, Category, Marker, Record, Status};
+pub use refusal::Refusal;
