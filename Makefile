@@ -1,5 +1,5 @@
 # Two commands do all the set-up: `make demo` and `make test`. Both need the Rattle kit's `rt`; the tests also need a C and C++ compiler and cargo.
-.PHONY: demo test library test-c test-model test-rust exhaustive baselines fmt
+.PHONY: demo test library test-c test-model test-rust exhaustive bench fmt
 
 # Lists the example sheet.
 demo:
@@ -35,8 +35,8 @@ test-rust: library
 exhaustive: library
 	cd bindings/rust && cargo run --offline --release --example exhaustive
 
-# Plain C and Rust that do the same work, tested against the model, and their times.
-baselines:
+# Plain C and Rust that do the same work, tested against the model; then the times of the library beside theirs, in one run.
+bench: library
 	cd bench && cargo test --offline --quiet && cargo run --offline --release
 
 fmt:

@@ -1,5 +1,5 @@
-//! Times the baselines: nanoseconds for a word, a figure, and a sheet's byte, the best of several runs.
-//! Another contestant is one more row of `CONTESTANTS`.
+//! Times the library and the baselines: nanoseconds for a word, a figure, and a sheet's byte, the best of several runs. The
+//! number in brackets is the C baseline's time divided by the contestant's.
 
 use bench::{c, rust};
 use std::hint::black_box;
@@ -13,14 +13,50 @@ struct Contestant {
     name: &'static str,
     decode: fn(&[u32]) -> u64,
     code: fn(&[(u8, u8, i64)]) -> u64,
-    check: fn(&[u8]) -> u64,
-    list: fn(&[u8], &mut Vec<u8>) -> u64,
+    check: Option<fn(&[u8]) -> u64>,
+    list: Option<fn(&[u8], &mut Vec<u8>) -> u64>,
 }
 
-const CONTESTANTS: [Contestant; 2] = [
-    Contestant { name: "C", decode: decode_c, code: code_c, check: check_c, list: list_c },
-    Contestant { name: "Rust", decode: decode_rust, code: code_rust, check: check_rust, list: list_rust },
+const CONTESTANTS: [Contestant; 3] = [
+    Contestant { name: "C", decode: decode_c, code: code_c, check: Some(check_c), list: Some(list_c) },
+    Contestant { name: "Rust", decode: decode_rust, code: code_rust, check: Some(check_rust), list: Some(list_rust) },
+    Contestant { name: "library", decode: decode_library, code: code_library, check: None, list: None },
 ];
+
+fn library_value(record: lampcygnet::Record) -> u64 {
+    use lampcygnet::Body;
+    match record.body {
+        Body::VorFrequency { frequency, .. }
+        | Body::IlsFrequency { frequency, .. }
+        | Body::MlsFrequency { frequency, .. } => frequency.into(),
+        Body::SelectedAzimuth { degrees: value, .. }
+        | Body::GreatestGlideAngle { tenths: value, .. }
+        | Body::SelectedGlideAngle { tenths: value, .. } => value.into(),
+        Body::Part1 { word_number, content } => u64::from(word_number) + 256 * u64::from(content),
+        Body::Part2 { content } | Body::Part3 { content } | Body::Part4 { content, .. } => content.into(),
+        Body::VorAzimuth { count, .. }
+        | Body::IlsCourse { count, .. }
+        | Body::IlsGlide { count, .. }
+        | Body::MlsAzimuthDeviation { count, .. }
+        | Body::MlsGlideDeviation { count, .. } => count as u64,
+    }
+}
+
+fn decode_library(words: &[u32]) -> u64 {
+    words
+        .iter()
+        .map(|&word| lampcygnet::decode(word).map_or_else(|refusal| refusal.number().into(), library_value))
+        .fold(0, u64::wrapping_add)
+}
+
+fn code_library(figures: &[(u8, u8, i64)]) -> u64 {
+    figures
+        .iter()
+        .map(|&(label, source, m)| {
+            lampcygnet::code_figure(label, source, m).map_or_else(|refusal| refusal.number().into(), u64::from)
+        })
+        .sum()
+}
 
 /// One opaque call a word for every contestant: what a caller in another language pays.
 fn decode_c(words: &[u32]) -> u64 {
@@ -161,12 +197,15 @@ fn time(items: usize, mut work: impl FnMut() -> u64) -> (f64, u64) {
 }
 
 /// One line: the time of each contestant, and that of the first divided by it.
-fn line(name: &str, mut run: impl FnMut(&Contestant) -> (f64, u64)) {
-    let results: Vec<(f64, u64)> = CONTESTANTS.iter().map(&mut run).collect();
-    assert!(results.iter().all(|result| result.1 == results[0].1), "{name}: the answers differ");
+fn line(name: &str, mut run: impl FnMut(&Contestant) -> Option<(f64, u64)>) {
+    let results: Vec<(&str, f64, u64)> = CONTESTANTS
+        .iter()
+        .filter_map(|contestant| run(contestant).map(|(time, answer)| (contestant.name, time, answer)))
+        .collect();
+    assert!(results.iter().all(|result| result.2 == results[0].2), "{name}: the answers differ");
     print!("{name:<24}");
-    for (contestant, result) in CONTESTANTS.iter().zip(&results) {
-        print!("  {} {:7.3} ns ({:4.2})", contestant.name, result.0, results[0].0 / result.0);
+    for (contestant, time, _) in &results {
+        print!("  {contestant} {time:7.3} ns ({:4.2})", results[0].1 / time);
     }
     println!();
 }
@@ -178,11 +217,15 @@ fn main() {
     let figures = figures(&mut random);
     let sheet = sheet(&mut random, &received);
     let mut text = Vec::new();
-    line("decode, any word", |who| time(WORDS, || (who.decode)(black_box(&uniform))));
-    line("decode, receiver's word", |who| time(WORDS, || (who.decode)(black_box(&received))));
-    line("code a figure", |who| time(WORDS, || (who.code)(black_box(&figures))));
+    line("decode, any word", |who| Some(time(WORDS, || (who.decode)(black_box(&uniform)))));
+    line("decode, receiver's word", |who| Some(time(WORDS, || (who.decode)(black_box(&received)))));
+    line("code a figure", |who| Some(time(WORDS, || (who.code)(black_box(&figures)))));
     line("check a sheet, per byte", |who| {
-        time(100 * sheet.len(), || (0..100).map(|_| (who.check)(black_box(&sheet))).sum())
+        let check = who.check?;
+        Some(time(100 * sheet.len(), || (0..100).map(|_| check(black_box(&sheet))).sum()))
     });
-    line("list a sheet, per byte", |who| time(sheet.len(), || (who.list)(black_box(&sheet), &mut text)));
+    line("list a sheet, per byte", |who| {
+        let list = who.list?;
+        Some(time(sheet.len(), || list(black_box(&sheet), &mut text)))
+    });
 }

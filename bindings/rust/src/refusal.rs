@@ -38,6 +38,7 @@ pub enum Refusal {
 }
 
 impl Refusal {
+    /// In the order of their numbers.
     const ALL: [Refusal; 15] = [
         Refusal::Parity,
         Refusal::Label,
@@ -63,7 +64,7 @@ impl Refusal {
 
     /// The refusal with this number.
     pub fn from_number(number: u8) -> Option<Refusal> {
-        Self::ALL.into_iter().find(|refusal| refusal.number() == number)
+        Self::ALL.get(usize::from(number).wrapping_sub(1)).copied()
     }
 
     /// The value, unless the number beside it is that of a refusal.
