@@ -32,16 +32,19 @@ pub enum Start {
     Field(FieldKind, usize),
 }
 
-// The kind of field that a tag stands for.
+// The kind of field that a tag stands for. The four tags are numbered from 0 to 3 without a jump that depends on the tag.
 fn kind_of_tag(tag: u8) -> TagLookup
     ensures { λ r. ⌜ r ≡ kindOfTag tag ⌝ }
 {
-    match tag {
-        0x10 => TagLookup::Known(FieldKind::Word),
-        0x11 => TagLookup::Known(FieldKind::Figure),
-        0x12 => TagLookup::Known(FieldKind::Note),
-        0x20 => TagLookup::Known(FieldKind::Group),
-        _ => TagLookup::Unknown,
+    let known = ((tag == 0x10) | (tag == 0x11)) | ((tag == 0x12) | (tag == 0x20));
+    if !known {
+        return TagLookup::Unknown;
+    }
+    match tag % 16 + tag / 32 * 3 {
+        0 => TagLookup::Known(FieldKind::Word),
+        1 => TagLookup::Known(FieldKind::Figure),
+        2 => TagLookup::Known(FieldKind::Note),
+        _ => TagLookup::Known(FieldKind::Group),
     }
 }
 
