@@ -19,9 +19,10 @@ test:
 library:
 	rt staticlib capi
 
-# The C test, as C99 and as C++11, on the test vectors.
+# The C tests, as C99 and as C++11, on the test vectors.
 test-c: library
-	tests/c/run crates/check_words/data/words.txt crates/check_figures/data/figures.txt crates/check_groups/data/joins.txt
+	tests/c/run words crates/check_words/data/words.txt crates/check_figures/data/figures.txt crates/check_groups/data/joins.txt
+	tests/c/run sheets crates/check_sheets/data/*/*.bin
 
 # The independent model on the test vectors and on document 01's lines.
 test-model:

@@ -1,9 +1,11 @@
 /*
- * Lampcygnet: words of the GOST 18977 / ARINC 429 bus from VOR, ILS and MLS receivers.
+ * Lampcygnet: words of the GOST 18977 / ARINC 429 bus from VOR, ILS and MLS receivers, and the archive's sheets of words, figures and notes.
  *
- * Every function takes any numbers, ends, keeps no state, allocates nothing and writes to no memory but its result. An answer is a structure by
- * value whose field `refusal` is 0, or one of enum lampcygnet_refusal; beside a refusal every field is 0, except that lampcygnet_reassemble still
- * gives what is then held. Functions may be called from several threads at once.
+ * Every function takes any numbers, ends, keeps no state and allocates nothing. An answer is a structure by value whose field `refusal` is 0, or one of
+ * enum lampcygnet_refusal; beside a refusal every other field is 0 unless it is said what it is. Functions may be called from several threads at once.
+ *
+ * Bytes are passed as a pointer and a length: the bytes must be there, for the whole call. A buffer that is written is named `out`, with its length
+ * `room`; it must not overlap the bytes that are read. No other memory is written, and beside a refusal none at all.
  *
  * C99, and C++ from C++98 with <stdint.h> and <stdbool.h> at hand. Link with the static library.
  */
@@ -11,6 +13,7 @@
 #define LAMPCYGNET_H
 
 #include <stdbool.h>
+#include <stddef.h>
 #include <stdint.h>
 
 #ifdef __cplusplus
@@ -215,9 +218,116 @@ struct lampcygnet_step {
 
 /*
  * Takes one word. Part 1 starts anew; parts 2, 3 and 4 are taken only next in sequence and from the same source, else refused 14, and what was held
- * is dropped. After part 4 nothing is held. A word that is refused 1 to 4, 2 where it is no part, leaves what is held unchanged.
+ * is dropped. After part 4 nothing is held. A word that is refused 1 to 4, 2 where it is no part, leaves what is held unchanged. `next` is what is then
+ * held beside a refusal too.
  */
 struct lampcygnet_step lampcygnet_reassemble(struct lampcygnet_partial held, uint32_t word);
+
+/* ---- Sheets ---- */
+
+/* The most bytes that a sheet has, and the most that a listing has. */
+#define LAMPCYGNET_SHEET_MOST 32768
+#define LAMPCYGNET_LISTING_MOST 117085
+
+/* What a field of a sheet holds: its tag. */
+enum lampcygnet_tag {
+    LAMPCYGNET_TAG_NONE = 0,      /* no field: at the end of the sheet, and beside a refusal */
+    LAMPCYGNET_TAG_WORD = 0x10,   /* 4 bytes */
+    LAMPCYGNET_TAG_FIGURE = 0x11, /* 9 bytes: the label as a number, then the millionths */
+    LAMPCYGNET_TAG_NOTE = 0x12,   /* any bytes */
+    LAMPCYGNET_TAG_GROUP = 0x20   /* fields, one depth further in */
+};
+
+/* A place in a sheet or in a run of fields. */
+struct lampcygnet_place {
+    uint8_t refusal; /* enum lampcygnet_refusal */
+    size_t offset;   /* what it is the offset of is told at each function */
+};
+
+/*
+ * Whether a sheet is legal. Refused 15 above LAMPCYGNET_SHEET_MOST bytes; then the first from the left, at each field 9 (header cut), 10, 9 (content
+ * cut), 11, 12, then a group's inside. `offset` is that of the refused field's tag.
+ */
+struct lampcygnet_place lampcygnet_check_sheet(const uint8_t *sheet, size_t length);
+
+/* Where a walk over a sheet stands. */
+struct lampcygnet_walk {
+    uint8_t refusal; /* enum lampcygnet_refusal: what the sheet is refused */
+    size_t place;    /* the offset of the next field's tag, or of the refused one's */
+    size_t end1;     /* the ends of the groups entered last at depth 1, 2 and 3 */
+    size_t end2;
+    size_t end3;
+};
+
+/* A field of a sheet. */
+struct lampcygnet_field {
+    uint8_t refusal; /* enum lampcygnet_refusal: what the sheet is refused */
+    uint8_t tag;     /* enum lampcygnet_tag */
+    uint8_t depth;   /* 1 to 4 */
+    size_t place;    /* the offset of the field's tag, or of the refused one's; 0 at the end */
+    size_t length;   /* of the content, which starts at place + 3 */
+};
+
+/* A step of a walk: the field, and where the walk then stands. */
+struct lampcygnet_walked {
+    struct lampcygnet_field field;
+    struct lampcygnet_walk next;
+};
+
+/* The walk over a sheet from its first field. It checks the whole sheet first, so a refused sheet has no field. */
+struct lampcygnet_walk lampcygnet_walk_from_start(const uint8_t *sheet, size_t length);
+
+/*
+ * One step: the next field, in the order of the tags, a group before its inside. At the end the tag is 0; after the end or the refusal of the sheet
+ * each step gives the same again. A walk of another sheet, or any numbers, may be passed: a field that is given lies inside the sheet.
+ */
+struct lampcygnet_walked lampcygnet_next_field(const uint8_t *sheet, size_t length, struct lampcygnet_walk walk);
+
+/* The text of a note. */
+struct lampcygnet_note {
+    uint8_t refusal; /* enum lampcygnet_refusal */
+    size_t start;    /* the offset of its first byte; beside a refusal, the offset that the refusal has */
+    size_t length;
+};
+
+/* The note whose tag stands at a place of a sheet. Refused as the sheet is, else 10 with the place asked for. */
+struct lampcygnet_note lampcygnet_find_note(const uint8_t *sheet, size_t length, size_t place);
+
+/* A figure field: the label as a number, and the millionths. */
+struct lampcygnet_figure {
+    uint8_t refusal; /* enum lampcygnet_refusal */
+    uint8_t label;
+    int64_t millionths;
+};
+
+/* The word that the content of a word field holds. Refused 11 unless it has 4 bytes. */
+struct lampcygnet_word lampcygnet_word_in(const uint8_t *content, size_t length);
+
+/* The figure that the content of a figure field holds. Refused 11 unless it has 9 bytes. */
+struct lampcygnet_figure lampcygnet_figure_in(const uint8_t *content, size_t length);
+
+/*
+ * Each writes one field at a place of a buffer; `offset` is the place after it. Refused 15 with offset 0 if the field would end past
+ * LAMPCYGNET_SHEET_MOST bytes, then 13 with offset 0 if it would end past the buffer. A group's run must be one that may stand inside a group at
+ * depth 1: it is refused first, 9 to 12, with the offset in the run.
+ */
+struct lampcygnet_place lampcygnet_write_word(uint8_t *out, size_t room, size_t place, uint32_t word);
+struct lampcygnet_place lampcygnet_write_figure(uint8_t *out, size_t room, size_t place, uint8_t label, int64_t millionths);
+struct lampcygnet_place lampcygnet_write_note(uint8_t *out, size_t room, size_t place, const uint8_t *text, size_t length);
+struct lampcygnet_place lampcygnet_write_group(uint8_t *out, size_t room, size_t place, const uint8_t *run, size_t length);
+
+/* The length of a listing. */
+struct lampcygnet_listed {
+    uint8_t refusal; /* enum lampcygnet_refusal */
+    size_t length;
+};
+
+/*
+ * Writes the listing of a sheet: a line for each word and each figure, at last the totals; of a refused sheet one line with the refusal and its
+ * offset. The text stands in the first `length` bytes of the buffer, with no zero byte after it. Refused 13 if it is longer than the buffer; one of
+ * LAMPCYGNET_LISTING_MOST bytes always suffices.
+ */
+struct lampcygnet_listed lampcygnet_list_sheet(const uint8_t *sheet, size_t length, uint8_t *out, size_t room);
 
 #ifdef __cplusplus
 }

@@ -2,26 +2,13 @@
  * The word part of the library, called from C and from C++: the layout of its structures, document 01's lines, and the files of test vectors that
  * are named on the command line, line by line: words*, joins*, and any other name for figures.
  */
+#include "expect.h"
 #include "lampcygnet.h"
 
 #include <stddef.h>
 #include <stdio.h>
 #include <stdlib.h>
 #include <string.h>
-
-static long checks = 0;
-static long wrong = 0;
-
-static void expect(int holds, const char *what, long line)
-{
-    checks++;
-    if (!holds) {
-        wrong++;
-        printf("wrong: %s (%ld)\n", what, line);
-    }
-}
-
-#define EXPECT(condition) expect((condition) ? 1 : 0, #condition, (long)__LINE__)
 
 static void test_layout(void)
 {
@@ -425,6 +412,5 @@ int main(int argc, char **argv)
     for (i = 1; i < argc; i++) {
         run_file(argv[i]);
     }
-    printf("%ld checks, %ld wrong\n", checks, wrong);
-    return wrong == 0 ? 0 : 1;
+    return told();
 }

@@ -1,0 +1,50 @@
+-- A walk over a sheet with its state and its fields as numbers.
+-- Assumes nothing.
+use mathlib.Core.Bool.{cond}
+use mathlib.Core.List.{List, [], _∷_}
+use Prim.Native.Nat.{ℕ}
+use lib.Dec.{eqb}
+use Rattle.records.specs.Numbers.{numberOf}
+use Rattle.records.specs.declared.Refusal.{Refusal}
+use Rattle.records.specs.declared.Refusal.the-variants.{Parity, Label, ZeroBit, Code, Digit, Value, AngleParity, Reach, Truncated, Tag, Length, Depth, Room, Sequence, Oversize}
+use Rattle.fields.specs.Start.{tagOf}
+use Rattle.walk.specs.declared.Given.{Given}
+use Rattle.walk.specs.declared.Walk.{Walk}
+use Rattle.walk.specs.declared.WalkStep.{WalkStep}
+use Rattle.walk.specs.Step.{stepOf}
+use Rattle.flat_walks.specs.declared.FlatField.{FlatField}
+use Rattle.flat_walks.specs.declared.FlatWalk.{FlatWalk}
+use Rattle.flat_walks.specs.declared.FlatWalked.{FlatWalked}
+
+-- the numbers of a walk: no end counts beside a refusal
+abbrev pub flatWalk : Walk → FlatWalk
+flatWalk (Walk.At w) = record { refusal = 0; place = w .place; end1 = w .end1; end2 = w .end2; end3 = w .end3 }
+flatWalk (Walk.Refused f p) = record { refusal = numberOf f; place = p; end1 = 0; end2 = 0; end3 = 0 }
+
+-- all refusals
+abbrev pub refusals : List Refusal
+refusals =
+    Parity ∷ Label ∷ ZeroBit ∷ Code ∷ Digit ∷ Value ∷ AngleParity ∷ Reach ∷ Truncated ∷ Tag ∷ Length ∷ Depth ∷ Room ∷ Sequence ∷ Oversize ∷ []
+
+-- the walk refused by that one of these refusals whose number this is, or else another walk
+abbrev pub refusedBy : List Refusal → (number offset : ℕ) → Walk → Walk
+refusedBy [] n p other = other
+refusedBy (f ∷ fs) n p other = cond (eqb n (numberOf f)) (Walk.Refused f p) (refusedBy fs n p other)
+
+-- the walk that numbers stand for, for all numbers: that of a refused sheet beside a refusal's number, else a position
+abbrev pub walkFrom : FlatWalk → Walk
+walkFrom w = refusedBy refusals (w .refusal) (w .place) (Walk.At (record { place = w .place; end1 = w .end1; end2 = w .end2; end3 = w .end3 }))
+
+-- the numbers of what a step gives
+abbrev pub flatField : Given → FlatField
+flatField (Given.Field a) = record { refusal = 0; tag = tagOf (a .kind); depth = a .depth; place = a .place; length = a .length }
+flatField (Given.Refused f p) = record { refusal = numberOf f; tag = 0; depth = 0; place = p; length = 0 }
+flatField Given.End = record { refusal = 0; tag = 0; depth = 0; place = 0; length = 0 }
+
+-- the numbers of a step
+abbrev pub flatStep : WalkStep → FlatWalked
+flatStep t = record { field = flatField (t .given); next = flatWalk (t .next) }
+
+-- one step over a sheet, from numbers
+abbrev pub stepped : List ℕ → FlatWalk → FlatWalked
+stepped s w = flatStep (stepOf s (walkFrom w))

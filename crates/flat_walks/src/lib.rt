@@ -1,0 +1,163 @@
+// A walk over a sheet with its state and its fields as numbers.
+use fields::FieldKind;
+use records::Refusal;
+use walk::Given;
+use walk::Position;
+use walk::Walk;
+use walk::WalkStep;
+ghost use mathlib.Core.Path.{_≡_};
+ghost use Rattle.fields.specs.Start.{tagOf};
+ghost use Rattle.walk.specs.Step.{startWalk};
+ghost use Rattle.flat_walks.specs.Walks.{flatWalk, walkFrom, flatField, flatStep, stepped};
+
+// Where a walk stands, as numbers. A refusal's number, 1 to 15, stands for the refused sheet, with its offset as the place; beside any other number
+// stand the place and the ends of a position.
+#[repr(C)]
+pub struct FlatWalk {
+    pub refusal: u8,
+    pub place: usize,
+    pub end1: usize,
+    pub end2: usize,
+    pub end3: usize,
+}
+
+// A field as numbers. The tag is 0 at the end, and beside a refusal, whose offset is then the place.
+#[repr(C)]
+pub struct FlatField {
+    pub refusal: u8,
+    pub tag: u8,
+    pub depth: u8,
+    pub place: usize,
+    pub length: usize,
+}
+
+// The field that a step gives, and where the walk then stands.
+#[repr(C)]
+pub struct FlatWalked {
+    pub field: FlatField,
+    pub next: FlatWalk,
+}
+
+// The tag of a kind of field.
+fn tag_of(kind: FieldKind) -> u8
+    ensures { λ r. ⌜ r ≡ tagOf kind ⌝ }
+{
+    match kind {
+        FieldKind::Word => 0x10,
+        FieldKind::Figure => 0x11,
+        FieldKind::Note => 0x12,
+        FieldKind::Group => 0x20,
+    }
+}
+
+// The numbers of what a step gives.
+fn flat_field(given: Given) -> FlatField
+    ensures { λ r. ⌜ r ≡ flatField given ⌝ }
+{
+    match given {
+        Given::Field(field) => {
+            let kind = field.kind;
+            FlatField {
+                refusal: 0,
+                tag: tag_of(kind),
+                depth: field.depth,
+                place: field.place,
+                length: field.length,
+            }
+        }
+        Given::Refused(refusal, offset) => FlatField {
+            refusal: records::number(refusal),
+            tag: 0,
+            depth: 0,
+            place: offset,
+            length: 0,
+        },
+        Given::End => FlatField {
+            refusal: 0,
+            tag: 0,
+            depth: 0,
+            place: 0,
+            length: 0,
+        },
+    }
+}
+
+// The numbers of a walk.
+fn flat_walk(walk: Walk) -> FlatWalk
+    ensures { λ r. ⌜ r ≡ flatWalk walk ⌝ }
+{
+    match walk {
+        Walk::At(position) => FlatWalk {
+            refusal: 0,
+            place: position.place,
+            end1: position.end1,
+            end2: position.end2,
+            end3: position.end3,
+        },
+        Walk::Refused(refusal, offset) => FlatWalk {
+            refusal: records::number(refusal),
+            place: offset,
+            end1: 0,
+            end2: 0,
+            end3: 0,
+        },
+    }
+}
+
+// The walk that numbers stand for.
+fn walk_from(walk: FlatWalk) -> Walk
+    ensures { λ r. ⌜ r ≡ walkFrom walk ⌝ }
+{
+    let place = walk.place;
+    let refusal = walk.refusal;
+    match refusal {
+        1 => Walk::Refused(Refusal::Parity, place),
+        2 => Walk::Refused(Refusal::Label, place),
+        3 => Walk::Refused(Refusal::ZeroBit, place),
+        4 => Walk::Refused(Refusal::Code, place),
+        5 => Walk::Refused(Refusal::Digit, place),
+        6 => Walk::Refused(Refusal::Value, place),
+        7 => Walk::Refused(Refusal::AngleParity, place),
+        8 => Walk::Refused(Refusal::Reach, place),
+        9 => Walk::Refused(Refusal::Truncated, place),
+        10 => Walk::Refused(Refusal::Tag, place),
+        11 => Walk::Refused(Refusal::Length, place),
+        12 => Walk::Refused(Refusal::Depth, place),
+        13 => Walk::Refused(Refusal::Room, place),
+        14 => Walk::Refused(Refusal::Sequence, place),
+        15 => Walk::Refused(Refusal::Oversize, place),
+        _ => Walk::At(Position {
+            place: place,
+            end1: walk.end1,
+            end2: walk.end2,
+            end3: walk.end3,
+        }),
+    }
+}
+
+// The numbers of a step.
+fn flat_step(step: WalkStep) -> FlatWalked
+    ensures { λ r. ⌜ r ≡ flatStep step ⌝ }
+{
+    let given = step.given;
+    let next = step.next;
+    let field = flat_field(given);
+    FlatWalked {
+        field: field,
+        next: flat_walk(next),
+    }
+}
+
+// The walk over a sheet from its first field.
+pub fn start_flat(sheet: &[u8]) -> FlatWalk
+    ensures { λ r. ⌜ r ≡ flatWalk (startWalk (now (sheet .entry))) ⌝ }
+{
+    flat_walk(walk::start(sheet))
+}
+
+// One step of the walk that numbers stand for.
+pub fn step_flat(sheet: &[u8], walk: FlatWalk) -> FlatWalked
+    ensures { λ r. ⌜ r ≡ stepped (now (sheet .entry)) walk ⌝ }
+{
+    flat_step(walk::step(sheet, walk_from(walk)))
+}
