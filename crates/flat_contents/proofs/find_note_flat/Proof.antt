@@ -1,38 +1,40 @@
+-- The start and the end that the note has, as a start and a length.
+-- Assumes nothing.
+use mathlib.Core.Path.{sym, ap, _∙_}
+use Rattle.fields.specs.Run.{sheetOf}
+use Rattle.notes.specs.Note.{noteOf}
+use Rattle.flat_contents.specs.Notes.{flatFound, found-flat, ordered}
 use borrow.Author.Needs.{needs}
 use Rattle.flat_contents.proofs.find_note_flat.Statement.{statement}
 use Rattle.flat_contents.proofs.find_note_flat.Tie as tie
-use Rattle.flat_contents.proofs.find_note_flat.Reads as reads
-use Rattle.flat_contents.proofs.find_note_flat.Lts as lts
-use Rattle.notes.proofs.find_note.Reads as find-note-reads
-use Rattle.records.proofs.number.Reads as number-reads
 
--- src/lib.rt:80:11
 find-note-requires : tie.Need-find-note-requires
 find-note-requires c κs = search needs
 
--- src/lib.rt:81:26
 enum-known-start : tie.Need-enum-known-start
 enum-known-start c = search needs
 
--- src/lib.rt:84:21
 sub-t9 : tie.Need-sub-t9
-sub-t9 c = ?
+sub-t9 c =
+    let a = c .before .before .before .before .before .args in
+    ordered (a .place) (noteOf (sheetOf (a .sheet .now)) (a .place)) _ _ (sym (c .before .before .before .find-note .ensures) ∙ c .before .start .given .1)
 
--- src/lib.rt:86:28
 enum-known-refusal : tie.Need-enum-known-refusal
 enum-known-refusal c = search needs
 
--- src/lib.rt:87:22
 number-requires : tie.Need-number-requires
 number-requires c κs = search needs
 
--- src/lib.rt:77:1
 returns : tie.Need-returns
-returns c = ?
+returns c =
+    let a = c .before .before .before .before .before .args in
+    ap flatFound (sym (c .before .start .given .1) ∙ c .before .before .before .find-note .ensures) ∙ found-flat (a .place) (noteOf (sheetOf (a .sheet .now)) (a .place))
 
--- src/lib.rt:77:1
 returns-2 : tie.Need-returns-2
-returns-2 c = ?
+returns-2 c =
+    let a = c .before .before .before .before .before .before .args in
+    rw (c .number .ensures)
+    (ap flatFound (sym (c .before .before .refusal .given .1) ∙ c .before .before .before .before .find-note .ensures) ∙ found-flat (a .place) (noteOf (sheetOf (a .sheet .now)) (a .place)))
 
 pub find-note-flat-spec : {M : Type 1} → statement M
 find-note-flat-spec =
