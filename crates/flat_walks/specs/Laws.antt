@@ -1,6 +1,6 @@
 -- The numbers of a walk stand for it, so a walk from numbers to numbers gives what the walk gives; and a field that is given lies inside the sheet.
 -- Assumes nothing.
-use mathlib.Core.Path.{_≡_, refl, sym, ap, _∙_}
+use mathlib.Core.Path.{_≡_, refl, ap, _∙_}
 use mathlib.Core.List.{List}
 use Prim.Native.Nat.{ℕ, zero, suc, _+_, _≤_, _<_}
 use native.Mathlib.Omega.{arith}
@@ -12,7 +12,6 @@ use Rattle.walk.specs.declared.Given.{Given}
 use Rattle.walk.specs.declared.Walk.{Walk}
 use Rattle.walk.specs.Stands.{advances}
 use Rattle.walk.specs.Step.{startWalk, stepOf}
-use Rattle.flat_walks.specs.declared.FlatField.{FlatField}
 use Rattle.flat_walks.specs.declared.FlatWalk.{FlatWalk}
 use Rattle.flat_walks.specs.Walks.{flatWalk, refusals, refusedBy, walkFrom, flatField, stepped}
 
