@@ -4,8 +4,9 @@
  * Every function takes any numbers, ends, keeps no state and allocates nothing. An answer is a structure by value whose field `refusal` is 0, or one of
  * enum lampcygnet_refusal; beside a refusal every other field is 0 unless it is said what it is. Functions may be called from several threads at once.
  *
- * Bytes are passed as a pointer and a length: the bytes must be there, for the whole call. A buffer that is written is named `out`, with its length
- * `room`; it must not overlap the bytes that are read. No other memory is written, and beside a refusal none at all.
+ * Bytes are passed as a pointer and a length: the bytes must be there, for the whole call; the pointer may be null where the length is 0. A buffer that
+ * is written is named `out`, with its length `room`; it must not overlap the bytes that are read. No other memory is written, and beside a refusal none
+ * at all.
  *
  * C99, and C++ from C++98 with <stdint.h> and <stdbool.h> at hand. Link with the static library.
  */
@@ -246,15 +247,15 @@ struct lampcygnet_place {
 
 /*
  * Whether a sheet is legal. Refused 15 above LAMPCYGNET_SHEET_MOST bytes; then the first from the left, at each field 9 (header cut), 10, 9 (content
- * cut), 11, 12, then a group's inside. `offset` is that of the refused field's tag.
+ * cut), 11, 12, then a group's inside. `offset` is that of the refused field's tag, and 0 of a legal sheet and beside 15.
  */
 struct lampcygnet_place lampcygnet_check_sheet(const uint8_t *sheet, size_t length);
 
-/* Where a walk over a sheet stands. */
+/* Where a walk over a sheet stands. A number from 1 to 15 in `refusal` is that of a refused sheet; beside any other the place and the ends count. */
 struct lampcygnet_walk {
     uint8_t refusal; /* enum lampcygnet_refusal: what the sheet is refused */
     size_t place;    /* the offset of the next field's tag, or of the refused one's */
-    size_t end1;     /* the ends of the groups entered last at depth 1, 2 and 3 */
+    size_t end1;     /* the ends of the groups entered last at depth 1, 2 and 3; 0 beside a refusal */
     size_t end2;
     size_t end3;
 };
@@ -265,7 +266,7 @@ struct lampcygnet_field {
     uint8_t tag;     /* enum lampcygnet_tag */
     uint8_t depth;   /* 1 to 4 */
     size_t place;    /* the offset of the field's tag, or of the refused one's; 0 at the end */
-    size_t length;   /* of the content, which starts at place + 3 */
+    size_t length;   /* of the content, whose first byte has the offset place + 3 */
 };
 
 /* A step of a walk: the field, and where the walk then stands. */
@@ -279,7 +280,8 @@ struct lampcygnet_walk lampcygnet_walk_from_start(const uint8_t *sheet, size_t l
 
 /*
  * One step: the next field, in the order of the tags, a group before its inside. At the end the tag is 0; after the end or the refusal of the sheet
- * each step gives the same again. A walk of another sheet, or any numbers, may be passed: a field that is given lies inside the sheet.
+ * each step gives the same again. A walk of another sheet, or any numbers, may be passed: a field that is given lies inside the sheet, and what is no
+ * field there is refused, 9 to 12, at the walk's place.
  */
 struct lampcygnet_walked lampcygnet_next_field(const uint8_t *sheet, size_t length, struct lampcygnet_walk walk);
 
@@ -287,7 +289,7 @@ struct lampcygnet_walked lampcygnet_next_field(const uint8_t *sheet, size_t leng
 struct lampcygnet_note {
     uint8_t refusal; /* enum lampcygnet_refusal */
     size_t start;    /* the offset of its first byte; beside a refusal, the offset that the refusal has */
-    size_t length;
+    size_t length;   /* the number of its bytes, which lie inside the sheet */
 };
 
 /* The note whose tag stands at a place of a sheet. Refused as the sheet is, else 10 with the place asked for. */

@@ -234,7 +234,7 @@ static void test_rewriting(const uint8_t *sheet, size_t length)
     memset(written, PATTERN, sizeof written);
     end = rewrite(sheet, &at, length, 1);
     EXPECT(at == found_count);
-    EXPECT(end == length && memcmp(written[0], sheet, length) == 0);
+    EXPECT(end == length && (length == 0 || memcmp(written[0], sheet, length) == 0));
     EXPECT(is_filled(written[0] + end, LAMPCYGNET_SHEET_MOST - end));
 }
 
@@ -502,6 +502,26 @@ static void test_writers(void)
     WRITTEN(lampcygnet_write_group(buffer, sizeof buffer, 0, deep + 3, 6), 0, deep);
 }
 
+/* Where a length is 0 the pointer may be null. */
+static void test_null(void)
+{
+    static const char text[] = "words 0 refused 0\n";
+    static const uint8_t empty_note[3] = {0x12, 0, 0};
+    static const uint8_t empty_group[3] = {0x20, 0, 0};
+    memset(buffer, PATTERN, sizeof buffer);
+    test_legal(NULL, 0);
+    test_listing(NULL, 0, text, sizeof text - 1);
+    EXPECT(lampcygnet_list_sheet(NULL, 0, NULL, 0).refusal == LAMPCYGNET_REFUSED_ROOM);
+    EXPECT(lampcygnet_word_in(NULL, 0).refusal == LAMPCYGNET_REFUSED_LENGTH);
+    EXPECT(lampcygnet_figure_in(NULL, 0).refusal == LAMPCYGNET_REFUSED_LENGTH);
+    REFUSED(lampcygnet_write_word(NULL, 0, 0, 0), LAMPCYGNET_REFUSED_ROOM, 0);
+    REFUSED(lampcygnet_write_figure(NULL, 0, 0, 0, 0), LAMPCYGNET_REFUSED_ROOM, 0);
+    REFUSED(lampcygnet_write_note(NULL, 0, 0, NULL, 0), LAMPCYGNET_REFUSED_ROOM, 0);
+    REFUSED(lampcygnet_write_group(NULL, 0, 0, NULL, 0), LAMPCYGNET_REFUSED_ROOM, 0);
+    WRITTEN(lampcygnet_write_note(buffer, sizeof buffer, 5, NULL, 0), 5, empty_note);
+    WRITTEN(lampcygnet_write_group(buffer, sizeof buffer, 5, NULL, 0), 5, empty_group);
+}
+
 /* ---- Walks from any numbers ---- */
 
 static uint64_t state = 1;
@@ -540,6 +560,7 @@ static void test_any_walk(const uint8_t *sheet, size_t length)
             EXPECT(step.field.place < length && step.field.length <= length && step.field.place + 3 + step.field.length <= length);
         } else {
             EXPECT(step.field.depth == 0 && step.field.length == 0);
+            EXPECT(step.field.refusal == 0 || (LAMPCYGNET_REFUSED_TRUNCATED <= step.field.refusal && step.field.refusal <= LAMPCYGNET_REFUSED_DEPTH));
             EXPECT(step.field.place == (step.field.refusal != 0 ? walk.place : 0));
         }
     }
@@ -570,6 +591,7 @@ int main(int argc, char **argv)
     test_refusals();
     test_contents();
     test_writers();
+    test_null();
     test_any_walks();
     for (i = 1; i < argc; i++) {
         run_file(argv[i]);

@@ -41,9 +41,9 @@ fn flat_written(written: Written) -> FlatPlace
             refusal: 0,
             offset: end,
         },
-        Written::Refused(refusal, offset) => FlatPlace {
+        Written::Refused(refusal, place) => FlatPlace {
             refusal: records::number(refusal),
-            offset: offset,
+            offset: place,
         },
     }
 }
