@@ -13,7 +13,7 @@ static void expect(int holds, const char *what, long line)
     checks++;
     if (!holds) {
         wrong++;
-        printf("wrong: %s %s (%ld)\n", about, what, line);
+        printf("wrong: %s%s%s (%ld)\n", about, *about == 0 ? "" : ": ", what, line);
     }
 }
 
