@@ -1,4 +1,6 @@
-//! The library's functions, as `include/lampcygnet.h` declares them. Each takes any values and writes to no memory.
+//! The library's functions, as `include/lampcygnet.h` declares them. Each takes any values. Where a pointer and a length
+//! stand side by side, that many bytes must be there for the whole call; only those at `out` are written, and they must not
+//! overlap the others.
 
 #[repr(C)]
 #[derive(Clone, Copy, Debug, Default, PartialEq, Eq)]
@@ -69,6 +71,63 @@ pub struct Step {
     pub bits: u64,
 }
 
+#[repr(C)]
+#[derive(Clone, Copy)]
+pub struct Place {
+    pub refusal: u8,
+    pub offset: usize,
+}
+
+#[repr(C)]
+#[derive(Clone, Copy, Debug, PartialEq, Eq)]
+pub struct Walk {
+    pub refusal: u8,
+    pub place: usize,
+    pub end1: usize,
+    pub end2: usize,
+    pub end3: usize,
+}
+
+#[repr(C)]
+#[derive(Clone, Copy, Debug, PartialEq, Eq)]
+pub struct Field {
+    pub refusal: u8,
+    pub tag: u8,
+    pub depth: u8,
+    pub place: usize,
+    pub length: usize,
+}
+
+#[repr(C)]
+#[derive(Clone, Copy, Debug, PartialEq, Eq)]
+pub struct Walked {
+    pub field: Field,
+    pub next: Walk,
+}
+
+#[repr(C)]
+#[derive(Clone, Copy)]
+pub struct Note {
+    pub refusal: u8,
+    pub start: usize,
+    pub length: usize,
+}
+
+#[repr(C)]
+#[derive(Clone, Copy)]
+pub struct Figure {
+    pub refusal: u8,
+    pub label: u8,
+    pub millionths: i64,
+}
+
+#[repr(C)]
+#[derive(Clone, Copy)]
+pub struct Listed {
+    pub refusal: u8,
+    pub length: usize,
+}
+
 extern "C" {
     pub fn lampcygnet_decode(word: u32) -> Record;
     pub fn lampcygnet_encode(fields: Record) -> Word;
@@ -78,4 +137,15 @@ extern "C" {
     pub fn lampcygnet_print_count(label: u32, count: i64) -> Millionths;
     pub fn lampcygnet_agrees(word: u32, millionths: i64) -> bool;
     pub fn lampcygnet_reassemble(held: Partial, word: u32) -> Step;
+    pub fn lampcygnet_check_sheet(sheet: *const u8, length: usize) -> Place;
+    pub fn lampcygnet_walk_from_start(sheet: *const u8, length: usize) -> Walk;
+    pub fn lampcygnet_next_field(sheet: *const u8, length: usize, walk: Walk) -> Walked;
+    pub fn lampcygnet_find_note(sheet: *const u8, length: usize, place: usize) -> Note;
+    pub fn lampcygnet_word_in(content: *const u8, length: usize) -> Word;
+    pub fn lampcygnet_figure_in(content: *const u8, length: usize) -> Figure;
+    pub fn lampcygnet_write_word(out: *mut u8, room: usize, place: usize, word: u32) -> Place;
+    pub fn lampcygnet_write_figure(out: *mut u8, room: usize, place: usize, label: u8, millionths: i64) -> Place;
+    pub fn lampcygnet_write_note(out: *mut u8, room: usize, place: usize, text: *const u8, length: usize) -> Place;
+    pub fn lampcygnet_write_group(out: *mut u8, room: usize, place: usize, run: *const u8, length: usize) -> Place;
+    pub fn lampcygnet_list_sheet(sheet: *const u8, length: usize, out: *mut u8, room: usize) -> Listed;
 }

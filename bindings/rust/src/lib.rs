@@ -1,5 +1,6 @@
 //! Words of the GOST 18977 / ARINC 429 bus from VOR, ILS and MLS receivers: a word to its record and its reading, a record
-//! to its word, a printed figure to its word, and the MLS auxiliary data put together from their parts.
+//! to its word, a printed figure to its word, and the MLS auxiliary data put together from their parts. The archive's sheets
+//! of words, figures and notes are in [`sheet`].
 //!
 //! The work is done by a static library in which every function is proved to meet its contract for every input; this crate
 //! gives its numbers Rust's types. Build the library first: `make library` at the root of the repository.
@@ -19,6 +20,7 @@ mod group;
 mod reading;
 mod record;
 mod refusal;
+pub mod sheet;
 
 pub use figure::{agrees, code_figure, print_count};
 pub use group::{Group, Reassembler};
