@@ -4,9 +4,10 @@
 
 use crate::figure;
 use crate::generate::{self, Random};
-use crate::reading;
+use crate::listing;
+use crate::reading::{self, Reading, Value};
 use crate::reassembly::{self, Answer, Partial};
-use crate::sheet::{self, Content, Field, Refusal, WriteRefusal};
+use crate::sheet::{self, Content, Field, Refusal, WriteRefusal, LIMIT};
 use crate::word::{self, Record};
 
 /// The functions that can be compared.
@@ -16,6 +17,9 @@ pub trait Subject: Sync {
     }
     fn encode(&self, record: &Record) -> Result<u32, u8> {
         word::encode(record)
+    }
+    fn reading(&self, word: u32) -> Result<Option<Reading>, u8> {
+        word::decode(word).map(|record| reading::reading(&record))
     }
     fn code(&self, label: u8, source: u8, millionths: i64) -> Result<u32, u8> {
         figure::code(label, source, millionths)
@@ -35,14 +39,20 @@ pub trait Subject: Sync {
     fn check(&self, sheet: &[u8]) -> Result<Vec<Field>, Refusal> {
         sheet::check(sheet)
     }
-    fn note(&self, sheet: &[u8], place: usize) -> Result<Vec<u8>, Refusal> {
-        sheet::note(sheet, place).map(<[u8]>::to_vec)
+    fn contents<'a>(&self, sheet: &'a [u8]) -> Vec<Content<'a>> {
+        sheet::contents(sheet)
+    }
+    fn note<'a>(&self, sheet: &'a [u8], place: usize) -> Result<&'a [u8], Refusal> {
+        sheet::note(sheet, place)
     }
     fn write(&self, buffer: &mut [u8], place: usize, content: &Content) -> Result<usize, WriteRefusal> {
         sheet::write(buffer, place, content)
     }
     fn list(&self, sheet: &[u8]) -> String {
-        crate::listing::list(sheet)
+        listing::list(sheet)
+    }
+    fn list_into(&self, sheet: &[u8], buffer: &mut [u8]) -> Result<usize, u8> {
+        listing::list_into(sheet, buffer)
     }
 }
 
@@ -62,14 +72,43 @@ fn same<T: PartialEq + std::fmt::Debug>(input: impl FnOnce() -> String, subject:
     Err(format!("{}: got {subject}, the model gives {model}", input()))
 }
 
-/// One word: its record or refusal, and the word of its record.
+/// One word: its record or refusal, and the word and the reading of its record.
 pub fn word(subject: &dyn Subject, word: u32) -> Outcome {
     let record = word::decode(word);
     same(|| format!("decode {word:08X}"), subject.decode(word), record)?;
     match record {
-        Ok(record) => same(|| format!("encode {record:?}"), subject.encode(&record), Ok(word)),
+        Ok(record) => {
+            same(|| format!("encode {record:?}"), subject.encode(&record), Ok(word))?;
+            reading(subject, word)
+        }
         Err(_) => Ok(()),
     }
+}
+
+/// A reading with its double as bits, so that only the very same double is the same.
+fn exact(reading: Reading) -> (u8, u64, bool) {
+    let (unit, bits) = match reading.value {
+        Value::Degrees(double) => (0, double.to_bits()),
+        Value::Depth(double) => (1, double.to_bits()),
+        Value::Nanovolts(whole) => (2, whole as u64),
+        Value::Frequency(whole) => (3, whole as u64),
+        Value::Setting(whole) => (4, whole as u64),
+    };
+    (unit, bits, reading.test)
+}
+
+/// The reading of one word, accepted or not.
+pub fn reading(subject: &dyn Subject, word: u32) -> Outcome {
+    let model = word::decode(word).map(|record| reading::reading(&record));
+    let [theirs, ours] = [subject.reading(word), model].map(|answer| answer.map(|reading| reading.map(exact)));
+    same(|| format!("reading {word:08X}"), theirs, ours)
+}
+
+/// One chart point, its doubles bit for bit.
+pub fn chart_point(subject: &dyn Subject, course: u32, glide: u32) -> Outcome {
+    let answers = [subject.chart_point(course, glide), reading::chart_point(course, glide)];
+    let [theirs, ours] = answers.map(|answer| answer.map(|(x, y)| (x.to_bits(), y.to_bits())));
+    same(|| format!("chart point {course:08X} {glide:08X}"), theirs, ours)
 }
 
 /// One record, legal or not.
@@ -86,22 +125,63 @@ pub fn figure(subject: &dyn Subject, label: u8, source: u8, millionths: i64) -> 
     )
 }
 
-/// One sheet: its fields or refusal, its notes, and its listing.
+/// A figure beside a word.
+pub fn agreement(subject: &dyn Subject, word: u32, millionths: i64) -> Outcome {
+    same(
+        || format!("agrees {word:08X} {millionths}"),
+        subject.agrees(word, millionths),
+        figure::agrees(word, millionths),
+    )
+}
+
+/// One count printed.
+pub fn print(subject: &dyn Subject, label: u8, count: i64) -> Outcome {
+    same(|| format!("print {label:03o} {count}"), subject.print(label, count), figure::print_millionths(label, count))
+}
+
+/// A sheet as a message shows it.
+fn shown(bytes: &[u8]) -> String {
+    if bytes.len() < 400 {
+        format!("{bytes:02X?}")
+    } else {
+        format!("{} bytes", bytes.len())
+    }
+}
+
+/// One sheet: its fields or refusal, what its fields hold, its notes, and its listing.
 pub fn sheet(subject: &dyn Subject, bytes: &[u8]) -> Outcome {
     let fields = sheet::check(bytes);
-    let shown = || {
-        if bytes.len() < 400 {
-            format!("{bytes:02X?}")
-        } else {
-            format!("{} bytes", bytes.len())
-        }
-    };
-    same(|| format!("check {}", shown()), subject.check(bytes), fields.clone())?;
-    same(|| format!("list {}", shown()), subject.list(bytes), crate::listing::list(bytes))?;
-    let tags: Vec<usize> = fields.iter().flatten().map(|field| field.place).take(20).collect();
-    for place in tags.into_iter().chain([0, 1, bytes.len(), usize::MAX]) {
-        let model = sheet::note(bytes, place).map(<[u8]>::to_vec);
-        same(|| format!("note at {place} in {}", shown()), subject.note(bytes, place), model)?;
+    same(|| format!("list {}", shown(bytes)), subject.list(bytes), listing::list(bytes))?;
+    same(|| format!("contents {}", shown(bytes)), subject.contents(bytes), sheet::contents(bytes))?;
+    for place in places(bytes, &fields) {
+        let model = sheet::note_among(bytes, &fields, place);
+        same(|| format!("note at {place} in {}", shown(bytes)), subject.note(bytes, place), model)?;
+    }
+    same(|| format!("check {}", shown(bytes)), subject.check(bytes), fields)
+}
+
+/// Where notes are asked for: everywhere in a short sheet; in a long one at some of its tags and beside them.
+fn places(bytes: &[u8], fields: &Result<Vec<Field>, Refusal>) -> Vec<usize> {
+    let mut places = vec![0, 1, bytes.len(), LIMIT, usize::MAX - 2, usize::MAX];
+    if bytes.len() <= 64 {
+        places.extend(0..bytes.len() + 2);
+    } else if let Ok(fields) = fields {
+        let step = 1 + fields.len() / 12;
+        places.extend(fields.iter().step_by(step).flat_map(|field| [field.place, field.place + 3, field.content.end]));
+        places.extend(fields.iter().rev().find(|field| field.tag == sheet::NOTE).map(|field| field.place));
+    }
+    places
+}
+
+/// The listing of one sheet into buffers of a few lengths: the answer and the whole buffer afterwards.
+pub fn listing_room(subject: &dyn Subject, bytes: &[u8], room: usize) -> Outcome {
+    let needed = listing::list(bytes).len();
+    for room in [0, room, needed - 1, needed, needed + 1] {
+        let (mut theirs, mut ours) = (vec![0xA5; room], vec![0xA5; room]);
+        let (answer, model) = (subject.list_into(bytes, &mut theirs), listing::list_into(bytes, &mut ours));
+        let what = || format!("list into {room} bytes {}", shown(bytes));
+        same(what, answer, model)?;
+        same(|| format!("buffer after {}", what()), theirs, ours)?;
     }
     Ok(())
 }
@@ -135,39 +215,29 @@ pub fn random(subject: &dyn Subject, random: &mut Random, rounds: usize) -> Outc
         random_figures(subject, random)?;
         let bytes = generate::any_sheet(random);
         sheet(subject, &bytes)?;
+        let room = random.below(400) as usize;
+        listing_room(subject, &bytes, room)?;
         let length = random.below(40) as usize;
         parts(subject, &generate::part_words(random, length))?;
-        random_write(subject, random)?;
+        random_writes(subject, random)?;
     }
     Ok(())
 }
 
-fn random_words(subject: &dyn Subject, random: &mut Random) -> Outcome {
+/// Words, records and chart points.
+pub fn random_words(subject: &dyn Subject, random: &mut Random) -> Outcome {
     for _ in 0..20 {
         word(subject, generate::any_word(random))?;
+        reading(subject, generate::any_word(random))?;
         record(subject, &generate::any_record(random))?;
-        let source = random.below(4) as u8;
-        let [course, glide] = [0o173, 0o174].map(|label| {
-            let mut record = generate::legal_record_of(random, label);
-            record.source = if random.once_in(4) { record.source } else { source };
-            let word = word::encode(&record).unwrap();
-            if random.once_in(8) {
-                generate::any_word(random)
-            } else {
-                word
-            }
-        });
-        let words = if random.once_in(8) { (glide, course) } else { (course, glide) };
-        same(
-            || format!("chart point {words:08X?}"),
-            subject.chart_point(words.0, words.1),
-            reading::chart_point(words.0, words.1),
-        )?;
+        let (course, glide) = generate::chart_words(random);
+        chart_point(subject, course, glide)?;
     }
     Ok(())
 }
 
-fn random_figures(subject: &dyn Subject, random: &mut Random) -> Outcome {
+/// Figures coded, held against words, and counts printed.
+pub fn random_figures(subject: &dyn Subject, random: &mut Random) -> Outcome {
     for _ in 0..20 {
         let (label, source, millionths) = generate::any_figure(random);
         figure(subject, label, source, millionths)?;
@@ -176,37 +246,29 @@ fn random_figures(subject: &dyn Subject, random: &mut Random) -> Outcome {
             _ => generate::any_word(random),
         };
         let near = millionths.saturating_add(random.within(-50_000, 50_000));
-        for figure in [millionths, near] {
-            same(|| format!("agrees {word:08X} {figure}"), subject.agrees(word, figure), figure::agrees(word, figure))?;
-        }
-        let count = random.within(-40_000, 40_000);
-        same(
-            || format!("print {label:03o} {count}"),
-            subject.print(label, count),
-            figure::print_millionths(label, count),
-        )?;
+        agreement(subject, word, millionths)?;
+        agreement(subject, word, near)?;
+        print(subject, label, random.within(-40_000, 40_000))?;
     }
     Ok(())
 }
 
-fn random_write(subject: &dyn Subject, random: &mut Random) -> Outcome {
-    let length = if random.once_in(8) { 32_760 + random.below(16) } else { random.below(60) } as usize;
-    let buffer = random.bytes(length);
-    let place = match random.below(16) {
-        0 => usize::MAX - random.below(16) as usize,
-        1 => 32_740 + random.below(30) as usize,
-        2 => random.draw() as usize,
-        _ => random.below(length as u64 + 4) as usize,
-    };
+/// A field of each sort written at a random place of a buffer.
+pub fn random_writes(subject: &dyn Subject, random: &mut Random) -> Outcome {
     let size = if random.once_in(16) { 65_500 + random.below(100) } else { random.below(20) } as usize;
     let text = random.bytes(size);
     let inside = match random.below(8) {
         0 => generate::any_sheet(random),
         1 => generate::nested_sheet(random, 3),
+        2 => generate::exact_sheet(random, LIMIT - 3),
         _ => generate::legal_sheet(random, size % 64),
     };
-    write(subject, &buffer, place, &Content::Word(random.draw() as u32))?;
-    write(subject, &buffer, place, &Content::Figure(random.draw() as u8, random.draw() as i64))?;
-    write(subject, &buffer, place, &Content::Note(&text))?;
-    write(subject, &buffer, place, &Content::Group(&inside))
+    let (word, label, millionths) = (random.draw() as u32, random.draw() as u8, random.draw() as i64);
+    for content in
+        [Content::Word(word), Content::Figure(label, millionths), Content::Note(&text), Content::Group(&inside)]
+    {
+        let (length, place) = generate::room_and_place(random, &content);
+        write(subject, &random.bytes(length), place, &content)?;
+    }
+    Ok(())
 }

@@ -234,6 +234,25 @@ pub fn any_record(random: &mut Random) -> Record {
     record
 }
 
+/// A course word and a glide word for a chart point: of one source mostly; here and there exchanged, or any word.
+pub fn chart_words(random: &mut Random) -> (u32, u32) {
+    let source = random.below(4) as u8;
+    let [course, glide] = [0o173, 0o174].map(|label| {
+        let mut record = legal_record_of(random, label);
+        record.source = if random.once_in(4) { record.source } else { source };
+        if random.once_in(8) {
+            any_word(random)
+        } else {
+            word::encode(&record).unwrap()
+        }
+    });
+    if random.once_in(8) {
+        (glide, course)
+    } else {
+        (course, glide)
+    }
+}
+
 // ---- figures
 
 /// The figures around a boundary given in units of 1/(2 x denominator) step: the millionths next to it on both sides.
@@ -270,12 +289,20 @@ pub fn any_figure(random: &mut Random) -> (u8, u8, i64) {
     (label, source, any_millionths(random, &quantity))
 }
 
-/// A figure for a quantity: near its range, at a boundary, or any 64-bit number.
+/// A figure for a quantity: near its range, at a boundary, any 64-bit number of any size, or one at the ends of 64 bits.
 pub fn any_millionths(random: &mut Random, quantity: &Quantity) -> i64 {
     let greatest = (quantity.greatest * quantity.numerator / quantity.denominator) as i64;
-    match random.below(6) {
+    match random.below(7) {
         0 => random.draw() as i64 >> random.below(64),
-        1 | 2 => {
+        1 => {
+            let inward = (random.draw() >> (1 + random.below(63))) as i64;
+            if random.flag() {
+                i64::MAX - inward
+            } else {
+                i64::MIN + inward
+            }
+        }
+        2 | 3 => {
             let reach = if quantity.circle { 2 * greatest } else { greatest };
             random.within(-greatest - greatest / 8, reach + reach / 8)
         }
@@ -489,4 +516,54 @@ pub fn any_sheet(random: &mut Random) -> Vec<u8> {
             sheet
         }
     }
+}
+
+/// Every change at one place of a sheet: cut there, the byte left out, each bit turned, and the bytes that mean something.
+pub fn damaged_everywhere(sheet: &[u8]) -> impl Iterator<Item = Vec<u8>> + '_ {
+    (0..sheet.len()).flat_map(move |at| {
+        let without = [&sheet[..at], &sheet[at + 1..]].concat();
+        let bytes = (0..8).map(move |bit| sheet[at] ^ 1 << bit).chain([0x00, 0x04, 0x09, 0x10, 0x11, 0x12, 0x20, 0xFF]);
+        let changed = bytes.map(move |byte| {
+            let mut changed = sheet.to_vec();
+            changed[at] = byte;
+            changed
+        });
+        [sheet[..at].to_vec(), without].into_iter().chain(changed)
+    })
+}
+
+/// Sheets of one field with every tag, lengths that fit and do not, and every short content, inside `depth` - 1 groups.
+pub fn every_short_field(depth: usize) -> impl Iterator<Item = Vec<u8>> {
+    const LENGTHS: [u16; 16] = [0, 1, 2, 3, 4, 5, 6, 7, 8, 9, 10, 12, 13, 255, 256, 65535];
+    (0..=255u8).flat_map(move |tag| {
+        LENGTHS.into_iter().flat_map(move |length| {
+            (0..14usize).map(move |size| {
+                let [high, low] = length.to_be_bytes();
+                let mut field = vec![tag, high, low];
+                field.extend((0..size).map(|k| [0x20, 0x00, 0x03, 0x12, 0x00][k % 5]));
+                (1..depth).fold(field, |inside, _| sheet::field_bytes(&Content::Group(&inside)))
+            })
+        })
+    })
+}
+
+// ---- writing
+
+/// The length of a buffer and a place in it for a field: mostly with the field's end beside the buffer's or the limit.
+pub fn room_and_place(random: &mut Random, content: &Content) -> (usize, usize) {
+    let length = sheet::field_length(content);
+    let room = match random.below(8) {
+        0 => LIMIT + random.below(16) as usize - 8,
+        1 => length + random.below(5) as usize,
+        _ => random.below(60) as usize,
+    };
+    let beside = |random: &mut Random, end: usize| (end + random.below(5) as usize).saturating_sub(length + 2);
+    let place = match random.below(16) {
+        0 => usize::MAX - random.below(16) as usize,
+        1 => random.draw() as usize,
+        2 | 3 => beside(random, LIMIT),
+        4..=7 => beside(random, room),
+        _ => random.below(room as u64 + 4) as usize,
+    };
+    (room, place)
 }

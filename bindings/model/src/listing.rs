@@ -24,6 +24,14 @@ pub fn list(sheet: &[u8]) -> String {
     text + &format!("words {} refused {}\n", words.len(), refused)
 }
 
+/// The listing at the start of a buffer: "13: no room in the lent buffer"; "Lent memory stays as it stood". Gives its length.
+pub fn list_into(sheet: &[u8], buffer: &mut [u8]) -> Result<usize, u8> {
+    let text = list(sheet);
+    let start = buffer.get_mut(..text.len()).ok_or(13)?;
+    start.copy_from_slice(text.as_bytes());
+    Ok(text.len())
+}
+
 fn word_in(sheet: &[u8], field: &Field) -> u32 {
     u32::from_be_bytes(sheet[field.content.clone()].try_into().unwrap())
 }

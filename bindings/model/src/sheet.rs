@@ -75,9 +75,18 @@ pub fn check(sheet: &[u8]) -> Result<Vec<Field>, Refusal> {
 
 /// "A note is asked for by its place: the sheet's own refusal first, then 10 with that place where the walk finds no note."
 pub fn note(sheet: &[u8], place: usize) -> Result<&[u8], Refusal> {
-    let fields = check(sheet)?;
-    let found = fields.into_iter().find(|field| field.tag == NOTE && field.place == place);
-    found.map(|field| &sheet[field.content]).ok_or((10, place))
+    note_among(sheet, &check(sheet), place)
+}
+
+/// The same, from what checking the sheet gave.
+pub fn note_among<'a>(
+    sheet: &'a [u8],
+    checked: &Result<Vec<Field>, Refusal>,
+    place: usize,
+) -> Result<&'a [u8], Refusal> {
+    let fields = checked.as_ref().map_err(|&refusal| refusal)?;
+    let found = fields.iter().find(|field| field.tag == NOTE && field.place == place);
+    found.map(|field| &sheet[field.content.clone()]).ok_or((10, place))
 }
 
 /// What one field holds.
@@ -87,6 +96,20 @@ pub enum Content<'a> {
     Figure(u8, i64),
     Note(&'a [u8]),
     Group(&'a [u8]),
+}
+
+/// What the fields of a sheet hold, in the order of their tags; nothing of a refused one.
+pub fn contents(sheet: &[u8]) -> Vec<Content<'_>> {
+    let content = |field: Field| {
+        let bytes = &sheet[field.content];
+        match field.tag {
+            WORD => Content::Word(bytes.iter().fold(0, |word, &byte| word * 256 + u32::from(byte))),
+            FIGURE => Content::Figure(bytes[0], i64::from_be_bytes(bytes[1..].try_into().unwrap())),
+            NOTE => Content::Note(bytes),
+            _ => Content::Group(bytes),
+        }
+    };
+    check(sheet).unwrap_or_default().into_iter().map(content).collect()
 }
 
 /// The tag and the content's bytes: "word, 4 bytes, high first. 11: figure, 9 bytes: label as a number, then the millionths
@@ -114,6 +137,11 @@ pub fn field_bytes(content: &Content) -> Vec<u8> {
     field
 }
 
+/// How many bytes a field has: its tag, the two of its length, and its content.
+pub fn field_length(content: &Content) -> usize {
+    3 + tag_and_bytes(content).1.len()
+}
+
 /// Why a field is not written; the offset is that in a group's run.
 pub type WriteRefusal = (u8, Option<usize>);
 
@@ -124,8 +152,7 @@ pub fn write(buffer: &mut [u8], place: usize, content: &Content) -> Result<usize
     if let Content::Group(fields) = *content {
         run(fields, 0, fields.len(), 2).map_err(|(number, offset)| (number, Some(offset)))?;
     }
-    let length = 3 + tag_and_bytes(content).1.len() as u128;
-    let end = place as u128 + length;
+    let end = place as u128 + field_length(content) as u128;
     if end > LIMIT as u128 {
         return Err((15, None));
     }

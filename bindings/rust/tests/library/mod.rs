@@ -1,7 +1,10 @@
 //! The library as the model's subject: its records and refusals in the model's numbers.
 
-use lampcygnet::{Body, Category, Marker, Record, Refusal, Status};
+use lampcygnet::sheet::{self, Content, Sheet, SheetRefusal};
+use lampcygnet::{Body, Category, Marker, Reading, Record, Refusal, Shown, Status};
 use model::compare::Subject;
+use model::reading::Value;
+use model::sheet::{FIGURE, GROUP, NOTE, WORD};
 
 /// The library's records and refusals in the model's numbers.
 pub struct Library;
@@ -220,6 +223,81 @@ fn from_model(record: &model::Record) -> Option<Record> {
     })
 }
 
+/// The model's reading. Whether a setting was made by hand is the record's mark.
+fn reading_to_model(reading: Reading, test: bool, record: Record) -> model::reading::Reading {
+    let by_hand = |expected: bool| match record.body {
+        Body::SelectedAzimuth { manual, .. } | Body::SelectedGlideAngle { manual, .. } => assert_eq!(expected, manual),
+        _ => panic!("no setting: {record:?}"),
+    };
+    let value = match reading {
+        Reading::Degrees(value) => Value::Degrees(value),
+        Reading::DepthDifference(value) => Value::Depth(value),
+        Reading::Nanovolts(whole) => Value::Nanovolts(whole),
+        Reading::TensOfKhz(whole) => Value::Frequency(whole),
+        Reading::GreatestTenths(whole) => Value::Setting(whole),
+        Reading::SelectedDegrees(whole, manual) | Reading::SelectedTenths(whole, manual) => {
+            by_hand(manual);
+            Value::Setting(whole)
+        }
+    };
+    model::reading::Reading { value, test }
+}
+
+fn refused(refusal: SheetRefusal) -> (u8, usize) {
+    (refusal.refusal.number(), refusal.offset)
+}
+
+/// Where a part of a sheet starts; the part must be the sheet's own bytes.
+fn offset_in(sheet: &[u8], part: &[u8]) -> usize {
+    let offset = (part.as_ptr() as usize).wrapping_sub(sheet.as_ptr() as usize);
+    assert!(
+        offset <= sheet.len() && part.len() <= sheet.len() - offset,
+        "not the sheet's own bytes"
+    );
+    offset
+}
+
+fn field_to_model(bytes: &[u8], field: sheet::Field) -> model::Field {
+    let after_header = field.place + 3;
+    let (tag, content) = match field.content {
+        Content::Word(_) => (WORD, after_header..after_header + 4),
+        Content::Figure { .. } => (FIGURE, after_header..after_header + 9),
+        Content::Note(part) | Content::Group(part) => {
+            let start = offset_in(bytes, part);
+            let tag = if matches!(field.content, Content::Note(_)) {
+                NOTE
+            } else {
+                GROUP
+            };
+            (tag, start..start + part.len())
+        }
+    };
+    model::Field {
+        tag,
+        place: field.place,
+        depth: field.depth.into(),
+        content,
+    }
+}
+
+fn content_to_model(content: Content) -> model::Content {
+    match content {
+        Content::Word(word) => model::Content::Word(word),
+        Content::Figure { label, millionths } => model::Content::Figure(label, millionths),
+        Content::Note(text) => model::Content::Note(text),
+        Content::Group(run) => model::Content::Group(run),
+    }
+}
+
+fn content_from_model<'a>(content: &model::Content<'a>) -> Content<'a> {
+    match *content {
+        model::Content::Word(word) => Content::Word(word),
+        model::Content::Figure(label, millionths) => Content::Figure { label, millionths },
+        model::Content::Note(text) => Content::Note(text),
+        model::Content::Group(run) => Content::Group(run),
+    }
+}
+
 impl Subject for Library {
     fn decode(&self, word: u32) -> Result<model::Record, u8> {
         lampcygnet::decode(word).map(to_model).map_err(Refusal::number)
@@ -229,6 +307,15 @@ impl Subject for Library {
             Some(record) => record.encode().map_err(Refusal::number),
             None => model::encode(record),
         }
+    }
+    fn reading(&self, word: u32) -> Result<Option<model::reading::Reading>, u8> {
+        let shown = lampcygnet::reading(word).map_err(Refusal::number)?;
+        let record = lampcygnet::decode(word).map_err(Refusal::number)?;
+        Ok(match shown {
+            Shown::Absent => None,
+            Shown::Ready(reading) => Some(reading_to_model(reading, false, record)),
+            Shown::Test(reading) => Some(reading_to_model(reading, true, record)),
+        })
     }
     fn code(&self, label: u8, source: u8, millionths: i64) -> Result<u32, u8> {
         lampcygnet::code_figure(label, source, millionths).map_err(Refusal::number)
@@ -243,5 +330,32 @@ impl Subject for Library {
         lampcygnet::chart_point(course, glide)
             .map(|p| (p.course, p.glide))
             .map_err(Refusal::number)
+    }
+    fn check(&self, sheet: &[u8]) -> Result<Vec<model::Field>, (u8, usize)> {
+        let fields = Sheet::new(sheet).map_err(refused)?.fields();
+        Ok(fields.map(|field| field_to_model(sheet, field)).collect())
+    }
+    fn contents<'a>(&self, sheet: &'a [u8]) -> Vec<model::Content<'a>> {
+        let fields = Sheet::new(sheet).into_iter().flatten();
+        fields.map(|field| content_to_model(field.content)).collect()
+    }
+    fn note<'a>(&self, sheet: &'a [u8], place: usize) -> Result<&'a [u8], (u8, usize)> {
+        let text = Sheet::new(sheet).and_then(|sheet| sheet.note(place)).map_err(refused)?;
+        assert_eq!(offset_in(sheet, text), place + 3);
+        Ok(text)
+    }
+    fn write(&self, buffer: &mut [u8], place: usize, content: &model::Content) -> Result<usize, (u8, Option<usize>)> {
+        content_from_model(content)
+            .write(buffer, place)
+            .map_err(|refusal| match refused(refusal) {
+                (number @ (13 | 15), 0) => (number, None),
+                (number, offset) => (number, Some(offset)),
+            })
+    }
+    fn list(&self, sheet: &[u8]) -> String {
+        sheet::list(sheet)
+    }
+    fn list_into(&self, sheet: &[u8], buffer: &mut [u8]) -> Result<usize, u8> {
+        sheet::list_into(sheet, buffer).map_err(Refusal::number)
     }
 }
