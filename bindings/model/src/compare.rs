@@ -166,7 +166,7 @@ fn places(bytes: &[u8], fields: &Result<Vec<Field>, Refusal>) -> Vec<usize> {
     if bytes.len() <= 64 {
         places.extend(0..bytes.len() + 2);
     } else if let Ok(fields) = fields {
-        let step = 1 + fields.len() / 12;
+        let step = 1 + fields.len() / 4;
         places.extend(fields.iter().step_by(step).flat_map(|field| [field.place, field.place + 3, field.content.end]));
         places.extend(fields.iter().rev().find(|field| field.tag == sheet::NOTE).map(|field| field.place));
     }
@@ -257,10 +257,10 @@ pub fn random_figures(subject: &dyn Subject, random: &mut Random) -> Outcome {
 pub fn random_writes(subject: &dyn Subject, random: &mut Random) -> Outcome {
     let size = if random.once_in(16) { 65_500 + random.below(100) } else { random.below(20) } as usize;
     let text = random.bytes(size);
-    let inside = match random.below(8) {
-        0 => generate::any_sheet(random),
-        1 => generate::nested_sheet(random, 3),
-        2 => generate::exact_sheet(random, LIMIT - 3),
+    let inside = match random.below(32) {
+        0..=3 => generate::any_sheet(random),
+        4..=7 => generate::nested_sheet(random, 3),
+        8 => generate::exact_sheet(random, LIMIT - 3),
         _ => generate::legal_sheet(random, size % 64),
     };
     let (word, label, millionths) = (random.draw() as u32, random.draw() as u8, random.draw() as i64);

@@ -36,10 +36,12 @@ fn word_in(sheet: &[u8], field: &Field) -> u32 {
     u32::from_be_bytes(sheet[field.content.clone()].try_into().unwrap())
 }
 
-/// "the field just before it in its group": the one of the same depth whose content ends where this field's tag stands.
+/// "the field just before it in its group": out of those before it that are in its group, or further in, the one of its depth
+/// whose content ends where its tag stands.
 fn before(fields: &[Field], index: usize) -> Option<&Field> {
     let field = &fields[index];
-    fields.iter().find(|other| other.depth == field.depth && other.content.end == field.place)
+    let mut in_group = fields[..index].iter().rev().take_while(|other| other.depth >= field.depth);
+    in_group.find(|other| other.depth == field.depth && other.content.end == field.place)
 }
 
 /// "one line a word: label in three octal digits, source, status, figure, or `refused N`."

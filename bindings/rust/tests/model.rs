@@ -13,22 +13,37 @@ use model::sheet;
 use model::word::LABELS;
 use std::fs;
 use std::path::PathBuf;
+use std::thread;
 
 /// Random inputs of every sort.
 #[test]
 fn random_inputs() {
     let mut random = Random::from_environment("random inputs", 1);
-    compare::random(&Library, &mut random, 20_000).unwrap();
+    compare::random(&Library, &mut random, 4_000).unwrap();
+}
+
+/// Words of every sort with their readings, records legal and not, and chart points: 400,000 each.
+#[test]
+fn random_words() {
+    let mut random = Random::from_environment("words", 10);
+    for _ in 0..20_000 {
+        compare::random_words(&Library, &mut random).unwrap();
+    }
 }
 
 /// All words of every label in the table, with both parities.
 #[test]
 fn words_of_every_label() {
-    for (label, _) in LABELS {
+    let words_of = |label: u8| {
         for upper in 0..1u32 << 24 {
             compare::word(&Library, upper << 8 | u32::from(label.reverse_bits())).unwrap();
         }
-    }
+    };
+    thread::scope(|scope| {
+        for half in LABELS.chunks(8) {
+            scope.spawn(move || half.iter().for_each(|row| words_of(row.0)));
+        }
+    });
 }
 
 /// The figures at and beside every boundary of each quantity, and every count printed.

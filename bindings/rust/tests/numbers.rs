@@ -1,0 +1,479 @@
+//! The library's functions as C calls them, on numbers that the crate's types cannot hold: beside the model where it has an
+//! answer, else for what the header says of any numbers.
+
+#[path = "../src/ffi.rs"]
+#[allow(dead_code)]
+mod ffi;
+
+// Links the library.
+use lampcygnet as _;
+use model::generate::{self, Random};
+use model::reassembly::{self, Answer, Partial};
+use model::sheet::{self, FIGURE, GROUP, NOTE, WORD};
+use model::word::LABELS;
+use model::{Body, Record};
+
+/// A byte, small ones far more often than chance.
+fn byte(random: &mut Random) -> u8 {
+    match random.below(4) {
+        0 => random.draw() as u8,
+        _ => random.below(6) as u8,
+    }
+}
+
+/// A number, small ones and those near 2^64 more often than chance.
+fn size(random: &mut Random, most: usize) -> usize {
+    match random.below(8) {
+        0 => random.draw() as usize >> random.below(64),
+        1 => usize::MAX - random.below(8) as usize,
+        _ => random.below(most as u64 + 5) as usize,
+    }
+}
+
+// ---- words
+
+/// Any numbers as a record; those of a legal one half the time, with one of them changed.
+fn any_numbers(random: &mut Random) -> ffi::Record {
+    let mut numbers = ffi::Record {
+        refusal: random.draw() as u8,
+        kind: random.below(18) as u8,
+        source: byte(random),
+        status: byte(random),
+        marker: byte(random),
+        category: byte(random),
+        inhibit: byte(random),
+        clearance: byte(random),
+        manual: byte(random),
+        parity_good: byte(random),
+        word_number: random.draw() as u8,
+        count: random.draw() as i16 >> random.below(16),
+        value: random.draw() as u32 >> random.below(32),
+    };
+    if random.flag() {
+        // The function takes any numbers and writes to no memory.
+        numbers = unsafe { ffi::lampcygnet_decode(generate::legal_word(random)) };
+        match random.below(8) {
+            0 => numbers.status = byte(random),
+            1 => numbers.marker = byte(random),
+            2 => numbers.category = byte(random),
+            3 => (numbers.inhibit, numbers.clearance) = (byte(random), byte(random)),
+            4 => (numbers.manual, numbers.parity_good) = (byte(random), byte(random)),
+            5 => numbers.value ^= 1 << random.below(32),
+            _ => numbers.source = byte(random),
+        }
+    }
+    numbers
+}
+
+/// The model's answer to any numbers: 2 for no kind, 4 for a code outside its list, else that of the record.
+fn encode_numbers(n: &ffi::Record) -> Result<u32, u8> {
+    let flag = |number: u8| (number < 2).then_some(number == 1).ok_or(4);
+    let status = || n.status.checked_sub(1).filter(|status| *status < 4).ok_or(4);
+    let marker = || match n.marker {
+        4 => Ok(3),
+        3 => Err(4),
+        other => Ok(other),
+    };
+    let (count, value) = (i64::from(n.count), i64::from(n.value));
+    let body = match n.kind {
+        1 => Body::VorAzimuth {
+            status: status()?,
+            marker: marker()?,
+            count,
+        },
+        2 => Body::VorFrequency {
+            status: status()?,
+            frequency: value,
+        },
+        3 => Body::IlsCourse {
+            status: status()?,
+            inhibit: flag(n.inhibit)?,
+            count,
+        },
+        4 => Body::IlsGlide {
+            status: status()?,
+            inhibit: flag(n.inhibit)?,
+            count,
+        },
+        5 => Body::IlsFrequency {
+            status: status()?,
+            category: n.category,
+            frequency: value,
+        },
+        6 => Body::MlsFrequency {
+            status: status()?,
+            frequency: value,
+        },
+        7 | 8 => {
+            let (status, inhibit, clearance) = (status()?, flag(n.inhibit)?, flag(n.clearance)?);
+            match n.kind {
+                7 => Body::MlsAzimuth {
+                    status,
+                    inhibit,
+                    clearance,
+                    count,
+                },
+                _ => Body::MlsGlide {
+                    status,
+                    inhibit,
+                    clearance,
+                    count,
+                },
+            }
+        }
+        9 => Body::SelectedAzimuth {
+            status: status()?,
+            manual: flag(n.manual)?,
+            degrees: value,
+        },
+        10 => Body::GreatestGlide {
+            status: status()?,
+            tenths: value,
+        },
+        11 => Body::SelectedGlide {
+            status: status()?,
+            manual: flag(n.manual)?,
+            tenths: value,
+        },
+        12 => Body::Part1 {
+            number: n.word_number.into(),
+            content: value,
+        },
+        13 => Body::Part2 { content: value },
+        14 => Body::Part3 { content: value },
+        15 => Body::Part4 {
+            parity: flag(n.parity_good)?,
+            content: value,
+        },
+        _ => return Err(2),
+    };
+    model::encode(&Record { source: n.source, body })
+}
+
+#[test]
+fn records_of_any_numbers() {
+    let mut random = Random::from_environment("records of numbers", 21);
+    for _ in 0..1_000_000 {
+        let numbers = any_numbers(&mut random);
+        // The function takes any numbers and writes to no memory.
+        let answer = unsafe { ffi::lampcygnet_encode(numbers) };
+        match encode_numbers(&numbers) {
+            Ok(word) => assert_eq!((answer.refusal, answer.word), (0, word), "{numbers:?}"),
+            Err(refusal) => assert_eq!((answer.refusal, answer.word), (refusal, 0), "{numbers:?}"),
+        }
+    }
+}
+
+/// Beside a refusal every field is 0.
+#[test]
+fn refused_words_have_no_numbers() {
+    let mut random = Random::from_environment("refused words", 22);
+    for _ in 0..500_000 {
+        let word = generate::any_word(&mut random);
+        // The functions take any numbers and write to no memory.
+        let (record, reading) = unsafe { (ffi::lampcygnet_decode(word), ffi::lampcygnet_reading_of(word)) };
+        if let Err(refusal) = model::decode(word) {
+            assert_eq!(
+                record,
+                ffi::Record {
+                    refusal,
+                    ..ffi::Record::default()
+                }
+            );
+            let numbers = (
+                reading.refusal,
+                reading.shown,
+                reading.unit,
+                reading.manual,
+                reading.whole,
+            );
+            assert_eq!((numbers, reading.value.to_bits()), ((refusal, 0, 0, 0, 0), 0));
+        }
+    }
+}
+
+/// Labels and sources above a byte, and counts of 64 bits.
+#[test]
+fn figures_of_any_numbers() {
+    let mut random = Random::from_environment("figures of numbers", 23);
+    for _ in 0..500_000 {
+        let (label, source, millionths) = generate::any_figure(&mut random);
+        let wide = |random: &mut Random, number: u8| {
+            u32::from(number)
+                + if random.once_in(4) {
+                    (random.draw() as u32 >> random.below(24)) << 8
+                } else {
+                    0
+                }
+        };
+        let (label, source) = (wide(&mut random, label), wide(&mut random, source));
+        let known = u8::try_from(label)
+            .ok()
+            .filter(|label| model::figure::quantity_of(*label).is_some());
+        let count = if random.flag() {
+            random.within(-70_000, 70_000)
+        } else {
+            random.draw() as i64
+        };
+        // The functions take any numbers and write to no memory.
+        let (coded, printed) = unsafe {
+            (
+                ffi::lampcygnet_code_figure(label, source, millionths),
+                ffi::lampcygnet_print_count(label, count),
+            )
+        };
+        let model = match (known, u8::try_from(source)) {
+            (None, _) => Err(2),
+            (Some(_), Err(_)) => Err(4),
+            (Some(label), Ok(source)) => model::code(label, source, millionths),
+        };
+        let expected = model.map_or_else(|refusal| (refusal, 0), |word| (0, word));
+        assert_eq!(
+            (coded.refusal, coded.word),
+            expected,
+            "code {label:o} {source} {millionths}"
+        );
+        let model = known
+            .ok_or(2)
+            .and_then(|label| model::print_millionths(label, count).ok_or(6));
+        let expected = model.map_or_else(|refusal| (refusal, 0), |millionths| (0, millionths));
+        assert_eq!(
+            (printed.refusal, printed.millionths),
+            expected,
+            "print {label:o} {count}"
+        );
+    }
+}
+
+/// Reassembly from any numbers as what is held.
+#[test]
+fn parts_from_any_state() {
+    let mut random = Random::from_environment("parts from any state", 24);
+    for _ in 0..500_000 {
+        let held = ffi::Partial {
+            parts: byte(&mut random),
+            source: byte(&mut random),
+            bits: random.draw(),
+        };
+        let word = generate::part_words(&mut random, 1)[0];
+        let contents = |parts: u8, bits: u64| (0..parts).map(|k| (bits >> (16 * k)) as u16).collect();
+        let state = |held: ffi::Partial| {
+            let known = (1..=3).contains(&held.parts);
+            known.then(|| Partial {
+                source: held.source,
+                contents: contents(held.parts, held.bits),
+            })
+        };
+        // The function takes any numbers and writes to no memory.
+        let step = unsafe { ffi::lampcygnet_reassemble(held, word) };
+        let answer = match (step.refusal, step.complete) {
+            (0, 0) => Answer::Taken(step.next.parts.into()),
+            (0, _) => Answer::Whole(step.bits, step.parity_good == 1),
+            (refusal, _) => Answer::Refused(refusal),
+        };
+        assert_eq!(
+            (state(step.next), answer),
+            reassembly::step(state(held), word),
+            "{held:?} {word:08X}"
+        );
+        if step.complete == 0 {
+            assert_eq!((step.parity_good, step.bits), (0, 0));
+        }
+    }
+}
+
+// ---- sheets
+
+/// The sheet with other bytes around it: what is read outside would show.
+struct Surrounded {
+    bytes: Vec<u8>,
+    length: usize,
+}
+
+const MARGIN: usize = 32;
+
+impl Surrounded {
+    fn new(sheet: &[u8], around: &[u8]) -> Surrounded {
+        let margin: Vec<u8> = around.iter().copied().cycle().take(MARGIN).collect();
+        Surrounded {
+            bytes: [&margin, sheet, &margin].concat(),
+            length: sheet.len(),
+        }
+    }
+
+    fn sheet(&self) -> &[u8] {
+        &self.bytes[MARGIN..MARGIN + self.length]
+    }
+
+    fn step(&self, walk: ffi::Walk) -> ffi::Walked {
+        let sheet = self.sheet();
+        // Pointer and length are those of a slice, which is only read.
+        unsafe { ffi::lampcygnet_next_field(sheet.as_ptr(), sheet.len(), walk) }
+    }
+}
+
+fn any_walk(random: &mut Random, length: usize) -> ffi::Walk {
+    ffi::Walk {
+        refusal: if random.once_in(8) { random.draw() as u8 } else { 0 },
+        place: size(random, length),
+        end1: size(random, length),
+        end2: size(random, length),
+        end3: size(random, length),
+    }
+}
+
+const NO_FIELD: ffi::Field = ffi::Field {
+    refusal: 0,
+    tag: 0,
+    depth: 0,
+    place: 0,
+    length: 0,
+};
+
+/// From any numbers each field lies in the sheet, the walk goes forward and ends, and then gives the same again.
+fn walk_on(sheets: &[Surrounded; 2], mut walk: ffi::Walk) {
+    let length = sheets[0].length;
+    for _ in 0..=length / 3 {
+        let step = sheets[0].step(walk);
+        assert_eq!(step, sheets[1].step(walk), "bytes outside the sheet count");
+        let field = step.field;
+        if field.tag == 0 {
+            let expected = ffi::Field {
+                refusal: field.refusal,
+                place: field.place,
+                ..NO_FIELD
+            };
+            assert!(
+                field == expected && (field.refusal != 0 || field.place == 0),
+                "{field:?}"
+            );
+            assert_eq!(sheets[0].step(step.next), step, "the same again");
+            return;
+        }
+        assert!([WORD, FIGURE, NOTE, GROUP].contains(&field.tag) && field.refusal == 0);
+        assert!((1..=4).contains(&field.depth));
+        assert!(field.place <= length && field.length <= length && field.place + 3 + field.length <= length);
+        assert!(field.place == walk.place && walk.place < step.next.place && step.next.place <= length);
+        walk = step.next;
+    }
+    panic!("more fields than a sheet of {length} bytes has");
+}
+
+#[test]
+fn walks_from_any_state() {
+    let mut random = Random::from_environment("walks from any state", 25);
+    for _ in 0..20_000 {
+        let mut sheet = generate::any_sheet(&mut random);
+        sheet.truncate(600);
+        let around: [&[u8]; 2] = [&[0x20, 0x00, 0x00], &[0xFF]];
+        let sheets = around.map(|around| Surrounded::new(&sheet, around));
+        for _ in 0..8 {
+            let walk = any_walk(&mut random, sheet.len());
+            walk_on(&sheets, walk);
+        }
+    }
+}
+
+/// A walk over one sheet goes on over another: stepped from wherever it stood.
+#[test]
+fn walks_on_over_another_sheet() {
+    let mut random = Random::from_environment("walks over another sheet", 26);
+    for _ in 0..20_000 {
+        let [first, second] = [0; 2].map(|_| {
+            let length = random.below(200) as usize;
+            generate::legal_sheet(&mut random, length)
+        });
+        // Pointer and length are those of a slice, which is only read.
+        let mut walk = unsafe { ffi::lampcygnet_walk_from_start(first.as_ptr(), first.len()) };
+        let [one, other] = [&[0x11u8][..], &[0x00]].map(|around| Surrounded::new(&second, around));
+        let sheets = [one, other];
+        for _ in 0..random.below(6) {
+            walk = Surrounded::new(&first, &[0]).step(walk).next;
+            walk_on(&sheets, walk);
+        }
+    }
+}
+
+/// The refusal of a sheet is told by its check, its walk and its notes, in every field that the header names.
+#[test]
+fn refused_sheets() {
+    let mut random = Random::from_environment("refused sheets", 27);
+    let mut seen = 0;
+    while seen < 20_000 {
+        let bytes = generate::any_sheet(&mut random);
+        let Err((refusal, offset)) = sheet::check(&bytes) else {
+            continue;
+        };
+        seen += 1;
+        let (pointer, length) = (bytes.as_ptr(), bytes.len());
+        let place = size(&mut random, length);
+        // Pointer and length are those of a slice, which is only read.
+        let (checked, walk, note) = unsafe {
+            (
+                ffi::lampcygnet_check_sheet(pointer, length),
+                ffi::lampcygnet_walk_from_start(pointer, length),
+                ffi::lampcygnet_find_note(pointer, length, place),
+            )
+        };
+        assert_eq!((checked.refusal, checked.offset), (refusal, offset));
+        assert_eq!((note.refusal, note.start, note.length), (refusal, offset, 0));
+        assert_eq!(
+            walk,
+            ffi::Walk {
+                refusal,
+                place: offset,
+                end1: 0,
+                end2: 0,
+                end3: 0
+            }
+        );
+        let step = Surrounded::new(&bytes, &[0]).step(walk);
+        let field = ffi::Field {
+            refusal,
+            place: offset,
+            ..NO_FIELD
+        };
+        assert_eq!(step, ffi::Walked { field, next: walk });
+    }
+}
+
+/// A content of any length holds a word at 4 bytes and a figure at 9, else nothing, refused 11.
+#[test]
+fn contents_of_any_length() {
+    let mut random = Random::from_environment("contents", 28);
+    for _ in 0..200_000 {
+        let length = random.below(14) as usize;
+        let bytes = random.bytes(length);
+        // Pointer and length are those of a slice, which is only read.
+        let (word, figure) = unsafe {
+            (
+                ffi::lampcygnet_word_in(bytes.as_ptr(), length),
+                ffi::lampcygnet_figure_in(bytes.as_ptr(), length),
+            )
+        };
+        let four = <[u8; 4]>::try_from(&bytes[..]).map_or((11, 0), |four| (0, u32::from_be_bytes(four)));
+        assert_eq!((word.refusal, word.word), four);
+        let nine = <[u8; 9]>::try_from(&bytes[..]).map_or((11, 0, 0), |nine| {
+            (
+                0,
+                nine[0],
+                nine[1..]
+                    .iter()
+                    .fold(0, |number: i64, &byte| number << 8 | i64::from(byte)),
+            )
+        });
+        assert_eq!((figure.refusal, figure.label, figure.millionths), nine);
+    }
+}
+
+/// The kinds that the header numbers from 1 stand in the order of the table.
+#[test]
+fn kinds_in_the_order_of_the_table() {
+    let mut random = Random::from_environment("kinds", 29);
+    for (index, (label, _)) in LABELS.iter().enumerate() {
+        let word = model::encode(&generate::legal_record_of(&mut random, *label)).unwrap();
+        // The function takes any numbers and writes to no memory.
+        let record = unsafe { ffi::lampcygnet_decode(word) };
+        assert_eq!((record.refusal, usize::from(record.kind)), (0, index + 1));
+    }
+}
