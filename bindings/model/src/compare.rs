@@ -148,24 +148,30 @@ fn shown(bytes: &[u8]) -> String {
     }
 }
 
+/// The fields of one sheet, or its refusal.
+pub fn check(subject: &dyn Subject, bytes: &[u8]) -> Outcome {
+    same(|| format!("check {}", shown(bytes)), subject.check(bytes), sheet::check(bytes))
+}
+
+/// The note at a place of a sheet.
+pub fn note(subject: &dyn Subject, bytes: &[u8], place: usize) -> Outcome {
+    same(|| format!("note at {place} in {}", shown(bytes)), subject.note(bytes, place), sheet::note(bytes, place))
+}
+
 /// One sheet: its fields or refusal, what its fields hold, its notes, and its listing.
 pub fn sheet(subject: &dyn Subject, bytes: &[u8]) -> Outcome {
-    let fields = sheet::check(bytes);
-    same(|| format!("list {}", shown(bytes)), subject.list(bytes), listing::list(bytes))?;
+    check(subject, bytes)?;
     same(|| format!("contents {}", shown(bytes)), subject.contents(bytes), sheet::contents(bytes))?;
-    for place in places(bytes, &fields) {
-        let model = sheet::note_among(bytes, &fields, place);
-        same(|| format!("note at {place} in {}", shown(bytes)), subject.note(bytes, place), model)?;
-    }
-    same(|| format!("check {}", shown(bytes)), subject.check(bytes), fields)
+    same(|| format!("list {}", shown(bytes)), subject.list(bytes), listing::list(bytes))?;
+    places(bytes).into_iter().try_for_each(|place| note(subject, bytes, place))
 }
 
 /// Where notes are asked for: everywhere in a short sheet; in a long one at some of its tags and beside them.
-fn places(bytes: &[u8], fields: &Result<Vec<Field>, Refusal>) -> Vec<usize> {
+fn places(bytes: &[u8]) -> Vec<usize> {
     let mut places = vec![0, 1, bytes.len(), LIMIT, usize::MAX - 2, usize::MAX];
-    if bytes.len() <= 64 {
+    if bytes.len() <= 40 {
         places.extend(0..bytes.len() + 2);
-    } else if let Ok(fields) = fields {
+    } else if let Ok(fields) = sheet::check(bytes) {
         let step = 1 + fields.len() / 4;
         places.extend(fields.iter().step_by(step).flat_map(|field| [field.place, field.place + 3, field.content.end]));
         places.extend(fields.iter().rev().find(|field| field.tag == sheet::NOTE).map(|field| field.place));

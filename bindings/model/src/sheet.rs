@@ -75,18 +75,9 @@ pub fn check(sheet: &[u8]) -> Result<Vec<Field>, Refusal> {
 
 /// "A note is asked for by its place: the sheet's own refusal first, then 10 with that place where the walk finds no note."
 pub fn note(sheet: &[u8], place: usize) -> Result<&[u8], Refusal> {
-    note_among(sheet, &check(sheet), place)
-}
-
-/// The same, from what checking the sheet gave.
-pub fn note_among<'a>(
-    sheet: &'a [u8],
-    checked: &Result<Vec<Field>, Refusal>,
-    place: usize,
-) -> Result<&'a [u8], Refusal> {
-    let fields = checked.as_ref().map_err(|&refusal| refusal)?;
-    let found = fields.iter().find(|field| field.tag == NOTE && field.place == place);
-    found.map(|field| &sheet[field.content.clone()]).ok_or((10, place))
+    let fields = check(sheet)?;
+    let found = fields.into_iter().find(|field| field.tag == NOTE && field.place == place);
+    found.map(|field| &sheet[field.content]).ok_or((10, place))
 }
 
 /// What one field holds.

@@ -1,9 +1,12 @@
 //! What must hold of the model itself: the three demands, tried on many inputs.
 
+use model::compare::{self, Model, Subject};
 use model::figure::QUANTITIES;
 use model::generate::{self, Random};
-use model::sheet::{self, Content, LIMIT};
-use model::{code, decode, encode, print_millionths, word};
+use model::reading::{self, Reading};
+use model::sheet::{self, Content, Field, LIMIT};
+use model::word::{self, Body, READY, TEST};
+use model::{code, decode, encode, print_millionths};
 
 #[test]
 fn accepted_words_and_legal_records_give_each_other_back() {
@@ -131,22 +134,76 @@ fn sheets_reach_every_refusal() {
     }
 }
 
-/// The comparison with other code: the model agrees with itself, and a wrong subject is found.
+/// The comparison with other code: the model agrees with itself.
 #[test]
-fn comparison_finds_differences() {
-    use model::compare::{self, Model, Subject};
-    struct Wrong;
-    impl Subject for Wrong {
-        fn code(&self, label: u8, source: u8, millionths: i64) -> Result<u32, u8> {
-            // Ties to the odd count.
-            match millionths {
-                36_600 => model::code(label, source, 36_601),
-                _ => model::code(label, source, millionths),
-            }
-        }
-    }
+fn the_model_agrees_with_itself() {
     let mut random = Random::from_environment("comparison", 6);
     compare::random(&Model, &mut random, 200).unwrap();
+}
+
+/// Each function has one small slip.
+struct Wrong;
+
+impl Subject for Wrong {
+    /// Ties to the odd count.
+    fn code(&self, label: u8, source: u8, millionths: i64) -> Result<u32, u8> {
+        match millionths {
+            36_600 => model::code(label, source, 36_601),
+            _ => model::code(label, source, millionths),
+        }
+    }
+    /// A negative zero.
+    fn chart_point(&self, course: u32, glide: u32) -> Result<(f64, f64), u8> {
+        reading::chart_point(course, glide).map(|(x, y)| (x, -y))
+    }
+    /// Test is not marked.
+    fn reading(&self, word: u32) -> Result<Option<Reading>, u8> {
+        Ok(reading::reading(&decode(word)?).map(|reading| Reading { test: false, ..reading }))
+    }
+    /// The fields are those of a sheet whose groups may stand at depth 4.
+    fn check(&self, sheet: &[u8]) -> Result<Vec<Field>, (u8, usize)> {
+        sheet::check(sheet).or_else(|refusal| if refusal.0 == 12 { Ok(Vec::new()) } else { Err(refusal) })
+    }
+    /// The offset of a refused note is that of its content.
+    fn note<'a>(&self, sheet: &'a [u8], place: usize) -> Result<&'a [u8], (u8, usize)> {
+        sheet::note(sheet, place).map_err(|(number, offset)| (number, offset.wrapping_add(3)))
+    }
+    /// The tag is written before the room is looked at.
+    fn write(&self, buffer: &mut [u8], place: usize, content: &Content) -> Result<usize, (u8, Option<usize>)> {
+        if let Some(tag) = buffer.get_mut(place) {
+            *tag = 0x10;
+        }
+        sheet::write(buffer, place, content)
+    }
+    /// One byte more than the text is written.
+    fn list_into(&self, sheet: &[u8], buffer: &mut [u8]) -> Result<usize, u8> {
+        let length = model::listing::list_into(sheet, buffer)?;
+        if let Some(after) = buffer.get_mut(length) {
+            *after = 0;
+        }
+        Ok(length)
+    }
+}
+
+#[test]
+fn comparison_finds_differences() {
     assert!(compare::figure(&Wrong, 0o151, 0, 36_600).is_err());
     assert!(compare::figure(&Wrong, 0o151, 0, 36_599).is_ok());
+    let word = |body| encode(&word::Record { source: 0, body }).unwrap();
+    let course = word(Body::IlsCourse { status: READY, inhibit: false, count: 1 });
+    let glide = |count| word(Body::IlsGlide { status: READY, inhibit: false, count });
+    assert!(compare::chart_point(&Wrong, course, glide(0)).is_err());
+    assert!(compare::chart_point(&Wrong, glide(0), course).is_ok());
+    assert!(compare::word(&Wrong, course).is_ok());
+    assert!(compare::word(&Wrong, word(Body::IlsCourse { status: TEST, inhibit: false, count: 1 })).is_err());
+    let mut groups = Vec::new();
+    for depth in 0..5 {
+        assert_eq!(compare::check(&Wrong, &groups).is_ok(), depth < 4);
+        groups = sheet::field_bytes(&Content::Group(&groups));
+    }
+    assert!(compare::note(&Wrong, b"\x12\x00\x00", 0).is_ok());
+    assert!(compare::note(&Wrong, b"\x12\x00\x00", 1).is_err());
+    assert!(compare::write(&Wrong, &[0; 7], 0, &Content::Word(0)).is_ok());
+    assert!(compare::write(&Wrong, &[0; 6], 0, &Content::Word(0)).is_err());
+    assert!(compare::listing_room(&Wrong, &[], 5).is_err());
 }

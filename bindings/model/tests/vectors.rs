@@ -64,7 +64,8 @@ fn joins() {
 
 #[test]
 fn sheets() {
-    let mut names: Vec<PathBuf> = fs::read_dir(data("check_sheets/data/sheets")).unwrap().map(|entry| entry.unwrap().path()).collect();
+    let mut names: Vec<PathBuf> =
+        fs::read_dir(data("check_sheets/data/sheets")).unwrap().map(|entry| entry.unwrap().path()).collect();
     names.retain(|name| name.extension().is_some_and(|extension| extension == "bin"));
     names.sort();
     assert!(names.len() >= 80, "{} sheets", names.len());
