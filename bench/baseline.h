@@ -26,7 +26,7 @@ int baseline_decode(uint32_t word, struct baseline_record *record);
 int baseline_code(uint8_t label, uint8_t source, int64_t millionths, uint32_t *word);
 /* The offset is 0 for a legal sheet. */
 int baseline_check(const uint8_t *sheet, size_t length, size_t *offset);
-/* Needs room for BASELINE_TEXT_MAX characters, else 13. A refused sheet has its line as text, and the answer is 0. */
+/* 13 if the text is longer than the room. A refused sheet has its line as text, and the answer is 0. */
 int baseline_list(const uint8_t *sheet, size_t length, char *text, size_t room, size_t *used);
 /* A page of words: a record and an answer for each; the record of a refused word is left as it was. */
 void baseline_decode_page(const uint32_t *words, size_t length, struct baseline_record *records, uint8_t *answers);

@@ -1,6 +1,6 @@
 //! Both baselines against the model on random inputs.
 
-use bench::{c, rust};
+use bench::{c, input, rust};
 use model::compare::{self, Subject};
 use model::generate::{self, Random};
 use model::word::{Body, Record};
@@ -52,6 +52,9 @@ impl Subject for C {
         let used = c::list(sheet, &mut text).unwrap();
         text.truncate(used);
         String::from_utf8(text).unwrap()
+    }
+    fn list_into(&self, sheet: &[u8], buffer: &mut [u8]) -> Result<usize, u8> {
+        c::list(sheet, buffer)
     }
 }
 
@@ -138,21 +141,43 @@ fn pages() {
     }
 }
 
-/// The C listing with too little room is 13 and writes nothing.
+/// Sheets of every sort.
 #[test]
-fn no_room() {
+fn random_sheets() {
+    each(|subject| {
+        let mut random = Random::from_environment("sheets", 14);
+        (0..20_000).try_for_each(|_| compare::sheet(subject, &generate::any_sheet(&mut random)))
+    });
+}
+
+/// The sheets that are timed: of the size asked for, legal, with words mostly accepted and figures that mostly agree.
+#[test]
+fn timed_sheets() {
+    let mut random = input::Random::new(15);
+    let words = input::receiver_words(&mut random, 5000);
+    for size in [3, 100, 1024, 32_768] {
+        let sheet = input::sheet(&mut random, &words, size);
+        assert_eq!(sheet.len(), size);
+        each(|subject| compare::sheet(subject, &sheet));
+        let listing = model::list(&sheet);
+        let lines = |start: &str| listing.lines().filter(|line| line.starts_with(start)).count();
+        if size == 32_768 {
+            assert!(lines("figure agrees") > 200 && lines("figure differs") > 20 && lines("figure unmatched") > 20);
+            assert!(lines("refused") > 20 && lines("refused") < 120, "{}", lines("refused"));
+        }
+    }
+}
+
+/// The longest listing, and a buffer that is one byte short of it.
+#[test]
+fn longest_listing() {
+    let body = Body::MlsAzimuth { status: 3, inhibit: false, clearance: false, count: -32768 };
+    let word = model::encode(&Record { source: 0, body }).unwrap();
+    let full = sheet::field_bytes(&sheet::Content::Word(word)).repeat(4681);
     let mut text = vec![7; c::TEXT_MAX - 1];
-    assert_eq!(c::list(&[], &mut text), Err(13));
+    assert_eq!(c::list(&full, &mut text), Err(13));
     assert!(text.iter().all(|&byte| byte == 7));
-    let mut random = Random::new(14);
-    let full: Vec<u8> = (0..4681)
-        .flat_map(|_| {
-            let mut record = generate::legal_record_of(&mut random, 0o151);
-            record.body = Body::MlsAzimuth { status: 3, inhibit: false, clearance: false, count: -32768 };
-            sheet::field_bytes(&sheet::Content::Word(model::encode(&record).unwrap()))
-        })
-        .collect();
-    let mut text = vec![0; c::TEXT_MAX];
+    let mut text = vec![7; c::TEXT_MAX];
     assert_eq!(c::list(&full, &mut text), Ok(c::TEXT_MAX));
 }
 

@@ -1,0 +1,106 @@
+//! What is timed: words, figures and sheets as the archive has them, the same in every run.
+
+/// The splitmix64 generator.
+pub struct Random(u64);
+
+impl Random {
+    pub fn new(seed: u64) -> Random {
+        Random(seed)
+    }
+
+    pub fn draw(&mut self) -> u64 {
+        self.0 = self.0.wrapping_add(0x9E37_79B9_7F4A_7C15);
+        let mut z = self.0;
+        z = (z ^ z >> 30).wrapping_mul(0xBF58_476D_1CE4_E5B9);
+        z = (z ^ z >> 27).wrapping_mul(0x94D0_49BB_1331_11EB);
+        z ^ z >> 31
+    }
+
+    fn below(&mut self, bound: u64) -> u64 {
+        self.draw() % bound
+    }
+}
+
+/// The low bytes of the fifteen labels in a word.
+const LABELS: [u32; 15] = [0x49, 0x38, 0xDE, 0x3E, 0xD8, 0x78, 0x96, 0x56, 0xD6, 0x36, 0xB6, 0x06, 0x86, 0x46, 0xC6];
+
+fn with_parity(word: u32) -> u32 {
+    let rest = word & 0x7FFF_FFFF;
+    rest | ((rest.count_ones() + 1) % 2) << 31
+}
+
+/// Words of all kinds of bits: nearly all are refused, half of them 1 and most others 2.
+pub fn any_words(random: &mut Random, length: usize) -> Vec<u32> {
+    (0..length).map(|_| random.draw() as u32).collect()
+}
+
+/// Words that a receiver sends: of all fifteen labels, accepted but for one in fifty.
+pub fn receiver_words(random: &mut Random, length: usize) -> Vec<u32> {
+    let mut words = Vec::with_capacity(length);
+    while words.len() < length {
+        let label = LABELS[random.below(15) as usize];
+        let word = random.draw() as u32 & !0xFF | label;
+        // Clears the zero bits that most labels share, so that random data is often a legal word.
+        let word = with_parity(if random.below(4) == 0 { word & 0xFFFF_03FF } else { word & 0x6FF8_03FF });
+        if crate::rust::decode(word).is_ok() {
+            words.push(if random.below(50) == 0 { word ^ 1 << random.below(32) } else { word });
+        }
+    }
+    words
+}
+
+/// Labels, sources and figures over the reach of each quantity.
+pub fn figures(random: &mut Random, length: usize) -> Vec<(u8, u8, i64)> {
+    let reaches =
+        [(0o222, 360_000_000), (0o173, 400_000), (0o174, 800_000), (0o151, 2_398_000_000), (0o152, 2_398_000_000)];
+    let mut figure = || {
+        let (label, reach) = reaches[random.below(5) as usize];
+        let size = random.below(reach) as i64;
+        (label, random.below(4) as u8, if random.below(2) == 0 { size } else { -size })
+    };
+    (0..length).map(|_| figure()).collect()
+}
+
+/// The label of a measured word and its value in millionths, as an operator would note it.
+fn noted(word: u32) -> Option<(u8, i64)> {
+    let short = f64::from((word << 3) as i32 >> 19);
+    let long = f64::from((word << 3) as i32 >> 16);
+    let value = match word & 0xFF {
+        0x49 => short * 45.0 / 1024.0,
+        0xDE => short / 10240.0,
+        0x3E => short / 5120.0,
+        0x96 | 0x56 => long * 0.0732,
+        _ => return None,
+    };
+    Some(((word as u8).reverse_bits(), (value * 1e6).round() as i64))
+}
+
+fn field(tag: u8, content: &[u8]) -> Vec<u8> {
+    let [high, low] = (content.len() as u16).to_be_bytes();
+    [&[tag, high, low], content].concat()
+}
+
+/// A sheet of exactly so many bytes, at least 3: an approach is a group of a short note and some words, each measured one
+/// with the figure noted beside it, of which one in ten has lost its decimal point. A last note fills the sheet up.
+pub fn sheet(random: &mut Random, words: &[u32], size: usize) -> Vec<u8> {
+    let mut sheet = Vec::new();
+    let first = random.below(words.len() as u64) as usize;
+    let mut words = words.iter().cycle().skip(first);
+    loop {
+        let mut approach = field(0x12, b"approach");
+        for word in words.by_ref().take(6 + random.below(12) as usize) {
+            approach.extend(field(0x10, &word.to_be_bytes()));
+            if let Some((label, millionths)) = noted(*word) {
+                let noted = if random.below(10) == 0 { millionths * 10 } else { millionths };
+                approach.extend(field(0x11, &[&[label][..], &noted.to_be_bytes()].concat()));
+            }
+        }
+        let approach = field(0x20, &approach);
+        if sheet.len() + approach.len() + 3 > size {
+            break;
+        }
+        sheet.extend(approach);
+    }
+    sheet.extend(field(0x12, &vec![b' '; size - sheet.len() - 3]));
+    sheet
+}
