@@ -1,19 +1,25 @@
 # Two commands do all the set-up: `make demo` and `make test`. Both need the Rattle kit's `rt`; the tests also need a C and C++ compiler and cargo.
-.PHONY: demo test library test-c test-model test-rust exhaustive bench fmt
+.PHONY: demo test library programs test-c test-model test-rust test-install exhaustive bench install uninstall fmt
+
+VERSION = 0.1.0
+PREFIX = /usr/local
 
 # Lists the example sheet.
-demo:
-	rt check list
+demo: programs
 	@./target/bin/list < examples/flight.sheet
 
-# The gate: layout of the sources; every proof from nothing, every must-fail edit and every program; then the model in Rust, and the library from C, C++ and Rust beside the model.
+# The gate: layout of the sources; every proof from nothing, every must-fail edit and every program; then the model in Rust, the library from C, C++ and Rust beside the model, and the installation.
 # Its last line is rt ci's own count.
 test: SHELL := /bin/bash
 test:
 	rt fmt --check
 	cmp examples/flight.sheet crates/check_sheets/data/flight/0000.bin
 	cmp examples/flight.txt crates/check_sheets/data/flight/0000.txt
-	@set -o pipefail; log=$$(mktemp) && rt ci 2>&1 | tee "$$log" && $(MAKE) --no-print-directory test-model test-c test-rust && tail -n 1 "$$log" && rm -f "$$log"
+	@set -o pipefail; log=$$(mktemp) && rt ci 2>&1 | tee "$$log" && $(MAKE) --no-print-directory test-model test-c test-rust test-install && tail -n 1 "$$log" && rm -f "$$log"
+
+# The programs that are installed: target/bin/list.
+programs:
+	rt check list
 
 # The static library that include/lampcygnet.h describes: target/staticlib/libcapi.a.
 library:
@@ -28,7 +34,7 @@ test-c: library
 test-model:
 	cd bindings/model && cargo test --offline --quiet
 
-# The Rust crate: its examples, and the library beside the model on all words of every label, on figures and on runs of parts.
+# The Rust crate: its examples, and the library beside the model on all words of every label, on figures, on runs of parts and on sheets.
 test-rust: library
 	cd bindings/rust && cargo test --offline --quiet
 
@@ -39,6 +45,29 @@ exhaustive: library
 # Plain C and Rust that do the same work, tested against the model; then the times of the library beside theirs, in one run.
 bench: library
 	cd bench && cargo test --offline --quiet && cargo run --offline --release
+
+# Puts the listing program, the header, the library, its pkg-config file and the manual pages below PREFIX, or below DESTDIR for a package of them.
+install: programs library
+	install -d "$(DESTDIR)$(PREFIX)/bin" "$(DESTDIR)$(PREFIX)/include" "$(DESTDIR)$(PREFIX)/lib/pkgconfig" \
+		"$(DESTDIR)$(PREFIX)/share/man/man1" "$(DESTDIR)$(PREFIX)/share/man/man3"
+	install -m 755 target/bin/list "$(DESTDIR)$(PREFIX)/bin/lampcygnet-list"
+	install -m 644 include/lampcygnet.h "$(DESTDIR)$(PREFIX)/include/lampcygnet.h"
+	install -m 644 target/staticlib/libcapi.a "$(DESTDIR)$(PREFIX)/lib/liblampcygnet.a"
+	$(call filled,lampcygnet.pc.in,lib/pkgconfig/lampcygnet.pc)
+	$(call filled,man/lampcygnet-list.1,share/man/man1/lampcygnet-list.1)
+	$(call filled,man/lampcygnet.3,share/man/man3/lampcygnet.3)
+
+# A file with its prefix and version filled in.
+filled = sed -e 's|@PREFIX@|$(PREFIX)|' -e 's|@VERSION@|$(VERSION)|' $(1) > "$(DESTDIR)$(PREFIX)/$(2)" && chmod 644 "$(DESTDIR)$(PREFIX)/$(2)"
+
+# Takes away the files that `install` puts there.
+uninstall:
+	cd "$(DESTDIR)$(PREFIX)" && rm -f bin/lampcygnet-list include/lampcygnet.h lib/liblampcygnet.a lib/pkgconfig/lampcygnet.pc \
+		share/man/man1/lampcygnet-list.1 share/man/man3/lampcygnet.3
+
+# Installs to a temporary folder, and uses what is there.
+test-install: programs library
+	tests/install/run
 
 fmt:
 	rt fmt
