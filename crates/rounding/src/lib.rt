@@ -10,11 +10,6 @@ pub fn round_half_even(n: u64, d: u64) -> u64
     let quotient = n / d;
     let remainder = n % d;
     let rest = d - remainder;
-    if remainder < rest {
-        return quotient;
-    }
-    if rest < remainder {
-        return quotient + 1;
-    }
-    quotient + quotient % 2
+    let tie = (remainder == rest) & (quotient % 2 == 1);
+    quotient + ((rest < remainder) | tie) as u64
 }
