@@ -1,9 +1,10 @@
 // The labels: the label of a word, and document 01's table of the fifteen labels with their zero bits.
 use records::Kind;
 ghost use mathlib.Core.Path.{_≡_};
-ghost use Prim.Native.Nat.{_<_};
+ghost use Prim.Native.Nat.{_<_, _%_};
 ghost use Rattle.labels.specs.Label.{labelOf};
 ghost use Rattle.labels.specs.Table.{rows, rowOf, kindAt, findKind};
+ghost use Rattle.labels.specs.Hash.{byteOf, candidateOf};
 
 // A row of the table. A one in `zeros` is a bit that is zero in every word of the kind.
 pub struct Row {
@@ -163,4 +164,63 @@ pub fn label_of(word: u32) -> u32
         + word / 32 % 2 * 4
         + word / 64 % 2 * 2
         + word / 128 % 2
+}
+
+// The byte that a kind's label has in a word.
+fn byte_of(kind: Kind) -> u32
+    ensures { λ r. ⌜ r ≡ byteOf kind ⌝ }
+{
+    match kind {
+        Kind::VorAzimuth => 0x49,
+        Kind::VorFrequency => 0x38,
+        Kind::IlsCourse => 0xde,
+        Kind::IlsGlide => 0x3e,
+        Kind::IlsFrequency => 0xd8,
+        Kind::MlsFrequency => 0x78,
+        Kind::MlsAzimuthDeviation => 0x96,
+        Kind::MlsGlideDeviation => 0x56,
+        Kind::SelectedAzimuth => 0xd6,
+        Kind::GreatestGlideAngle => 0x36,
+        Kind::SelectedGlideAngle => 0xb6,
+        Kind::Part1 => 0x06,
+        Kind::Part2 => 0x86,
+        Kind::Part3 => 0x46,
+        Kind::Part4 => 0xc6,
+    }
+}
+
+// The only kind that a word can be of, by a hash of its lowest byte that no two labels share.
+fn candidate(word: u32) -> Kind
+    ensures { λ r. ⌜ r ≡ candidateOf (word % 256) ⌝ }
+{
+    match word % 256 * 23 / 64 % 16 {
+        0 => Kind::Part2,
+        1 => Kind::SelectedGlideAngle,
+        2 => Kind::Part1,
+        3 => Kind::GreatestGlideAngle,
+        4 => Kind::VorFrequency,
+        5 => Kind::MlsAzimuthDeviation,
+        6 => Kind::IlsGlide,
+        7 => Kind::Part4,
+        8 => Kind::Part4,
+        9 => Kind::Part3,
+        10 => Kind::VorAzimuth,
+        11 => Kind::MlsFrequency,
+        12 => Kind::SelectedAzimuth,
+        13 => Kind::IlsFrequency,
+        14 => Kind::MlsGlideDeviation,
+        _ => Kind::IlsCourse,
+    }
+}
+
+// The kind that a word's label stands for.
+pub fn kind_in(word: u32) -> Lookup
+    ensures { λ r. ⌜ r ≡ findKind rows (labelOf word) ⌝ }
+{
+    let kind = candidate(word);
+    if byte_of(kind) == word % 256 {
+        Lookup::Known(kind)
+    } else {
+        Lookup::Unknown
+    }
 }
