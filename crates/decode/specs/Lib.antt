@@ -1,3 +1,3 @@
 pub mod Rules
-pub mod Fields
 pub mod Decode
+pub mod Kinds

@@ -3,20 +3,20 @@ use labels::Lookup;
 use records::AzimuthCount;
 use records::Band;
 use records::Body;
-use records::Category;
 use records::CourseCount;
 use records::GlideCount;
 use records::Kind;
-use records::Marker;
 use records::MlsCount;
 use records::Record;
 use records::Refusal;
 use records::Status;
 ghost use mathlib.Core.Path.{_≡_};
 ghost use mathlib.Core.Bool.{cond};
-ghost use Rattle.decode.specs.Rules.{rules, frequencyIn, decimal};
-ghost use Rattle.decode.specs.Fields.{fieldsIn, bodyFrom};
-ghost use Rattle.decode.specs.Decode.{verdict, decodeKind, decodeOf};
+ghost use Rattle.bits.specs.Fields.{bits};
+ghost use Rattle.records.specs.Codes.{binaryStatus, decimalStatus};
+ghost use Rattle.decode.specs.Rules.{frequencyIn, decimal};
+ghost use Rattle.decode.specs.Decode.{verdict, judged, decodeKind, decodeOf};
+ghost use Rattle.decode.specs.Kinds.{decodeClear};
 
 // What a word is: a record, or refused.
 pub enum Decoded {
@@ -69,158 +69,260 @@ fn frequency_verdict(band: Band, word: u32) -> Verdict
     )
 }
 
-// The rules of a kind.
-fn verdict_of(kind: Kind, word: u32) -> Verdict
-    ensures { λ r. ⌜ r ≡ verdict (rules kind word) ⌝ }
+// The status of a binary word, in bits 30 and 31.
+fn status_in(word: u32) -> Status
+    ensures { λ r. ⌜ r ≡ binaryStatus (bits 30 31 word) ⌝ }
 {
-    match kind {
-        Kind::VorAzimuth => kept_if(records::is_marker(word / 1024 % 8), Refusal::Code),
-        Kind::VorFrequency => frequency_verdict(Band::Vor, word),
-        Kind::IlsCourse => Verdict::Kept,
-        Kind::IlsGlide => Verdict::Kept,
-        Kind::IlsFrequency => frequency_verdict(Band::Ils, word),
-        Kind::MlsFrequency => frequency_verdict(Band::Mls, word),
-        Kind::MlsAzimuthDeviation => Verdict::Kept,
-        Kind::MlsGlideDeviation => Verdict::Kept,
-        Kind::SelectedAzimuth => kept_if(word / 524288 % 512 <= 359, Refusal::Value),
-        Kind::GreatestGlideAngle => kept_if(
-            bits::is_odd(word / 524288 % 512),
-            Refusal::AngleParity,
-        ),
-        Kind::SelectedGlideAngle => Verdict::Kept,
-        Kind::Part1 => kept_if(word / 536870912 % 4 == 0, Refusal::Code),
-        Kind::Part2 => kept_if(word / 536870912 % 4 == 1, Refusal::Code),
-        Kind::Part3 => kept_if(word / 536870912 % 4 == 2, Refusal::Code),
-        Kind::Part4 => kept_if(word / 536870912 % 4 == 3, Refusal::Code),
+    records::binary_status(word / 536870912 % 4)
+}
+
+// The status of a decimal word.
+fn decimal_status_in(word: u32) -> Status
+    ensures { λ r. ⌜ r ≡ decimalStatus (bits 30 31 word) ⌝ }
+{
+    records::decimal_status(word / 536870912 % 4)
+}
+
+// The record of a word with this body and the word's source, or the rule that it breaks.
+fn judged(verdict: Verdict, word: u32, body: Body) -> Decoded
+    ensures { λ r. ⌜ r ≡ judged verdict (record { source = bits 9 10 word; body = body }) ⌝ }
+{
+    match verdict {
+        Verdict::Kept => {
+            let source = (word / 256 % 4) as u8;
+            Decoded::Accepted(Record {
+                source: source,
+                body: body,
+            })
+        }
+        Verdict::Broken(refusal) => Decoded::Refused(refusal),
     }
 }
 
-// Every field that some kind of word has, read from a word.
-struct Fields {
-    status: Status,
-    decimal: Status,
-    marker: Marker,
-    category: Category,
-    azimuth: AzimuthCount,
-    course: CourseCount,
-    glide: GlideCount,
-    deviation: MlsCount,
-    vhf: u32,
-    mls: u32,
-    first: bool,
-    second: bool,
-    manual: bool,
-    setting: u16,
-    tenths: u16,
-    low: u8,
-    high: u8,
-    content: u16,
+// The words of each kind.
+fn vor_azimuth(word: u32) -> Decoded
+    ensures { λ r. ⌜ r ≡ decodeClear Kind.VorAzimuth word ⌝ }
+{
+    judged(
+        kept_if(records::is_marker(word / 1024 % 8), Refusal::Code),
+        word,
+        Body::VorAzimuth {
+            status: status_in(word),
+            marker: records::marker_of(word / 1024 % 8),
+            count: AzimuthCount(bits::signed_17_29(word)),
+        },
+    )
 }
 
-fn fields_in(word: u32) -> Fields
-    ensures { λ r. ⌜ r ≡ fieldsIn word ⌝ }
+fn vor_frequency(word: u32) -> Decoded
+    ensures { λ r. ⌜ r ≡ decodeClear Kind.VorFrequency word ⌝ }
 {
-    let code = word / 536870912 % 4;
-    let narrow = bits::signed_17_29(word);
-    Fields {
-        status: records::binary_status(code),
-        decimal: records::decimal_status(code),
-        marker: records::marker_of(word / 1024 % 8),
-        category: records::category_of(word / 1024 % 4),
-        azimuth: AzimuthCount(narrow),
-        course: CourseCount(narrow),
-        glide: GlideCount(narrow),
-        deviation: MlsCount(bits::signed_14_29(word)),
-        vhf: frequency_in(Band::Vor, word),
-        mls: frequency_in(Band::Mls, word),
-        first: word / 1024 % 2 == 1,
-        second: word / 2048 % 2 == 1,
-        manual: word / 262144 % 2 == 1,
-        setting: (word / 524288 % 512) as u16,
-        tenths: (word / 524288 % 256) as u16,
-        low: (word / 8192 % 256) as u8,
-        high: (word / 2097152 % 256) as u8,
-        content: (word / 8192 % 65536) as u16,
-    }
+    judged(
+        frequency_verdict(Band::Vor, word),
+        word,
+        Body::VorFrequency {
+            status: decimal_status_in(word),
+            frequency: frequency_in(Band::Vor, word),
+        },
+    )
 }
 
-// The body of a kind, from the fields that the kind has.
-fn body_from(kind: Kind, f: Fields) -> Body
-    ensures { λ r. ⌜ r ≡ bodyFrom kind f ⌝ }
+fn ils_course(word: u32) -> Decoded
+    ensures { λ r. ⌜ r ≡ decodeClear Kind.IlsCourse word ⌝ }
 {
-    let status = f.status;
-    let decimal = f.decimal;
-    let marker = f.marker;
-    let category = f.category;
-    let azimuth = f.azimuth;
-    let course = f.course;
-    let glide = f.glide;
-    let deviation = f.deviation;
+    judged(
+        Verdict::Kept,
+        word,
+        Body::IlsCourse {
+            status: status_in(word),
+            inhibit: word / 1024 % 2 == 1,
+            count: CourseCount(bits::signed_17_29(word)),
+        },
+    )
+}
+
+fn ils_glide(word: u32) -> Decoded
+    ensures { λ r. ⌜ r ≡ decodeClear Kind.IlsGlide word ⌝ }
+{
+    judged(
+        Verdict::Kept,
+        word,
+        Body::IlsGlide {
+            status: status_in(word),
+            inhibit: word / 1024 % 2 == 1,
+            count: GlideCount(bits::signed_17_29(word)),
+        },
+    )
+}
+
+fn ils_frequency(word: u32) -> Decoded
+    ensures { λ r. ⌜ r ≡ decodeClear Kind.IlsFrequency word ⌝ }
+{
+    judged(
+        frequency_verdict(Band::Ils, word),
+        word,
+        Body::IlsFrequency {
+            status: decimal_status_in(word),
+            category: records::category_of(word / 1024 % 4),
+            frequency: frequency_in(Band::Ils, word),
+        },
+    )
+}
+
+fn mls_frequency(word: u32) -> Decoded
+    ensures { λ r. ⌜ r ≡ decodeClear Kind.MlsFrequency word ⌝ }
+{
+    judged(
+        frequency_verdict(Band::Mls, word),
+        word,
+        Body::MlsFrequency {
+            status: decimal_status_in(word),
+            frequency: frequency_in(Band::Mls, word),
+        },
+    )
+}
+
+fn mls_azimuth_deviation(word: u32) -> Decoded
+    ensures { λ r. ⌜ r ≡ decodeClear Kind.MlsAzimuthDeviation word ⌝ }
+{
+    judged(
+        Verdict::Kept,
+        word,
+        Body::MlsAzimuthDeviation {
+            status: status_in(word),
+            inhibit: word / 1024 % 2 == 1,
+            clearance: word / 2048 % 2 == 1,
+            count: MlsCount(bits::signed_14_29(word)),
+        },
+    )
+}
+
+fn mls_glide_deviation(word: u32) -> Decoded
+    ensures { λ r. ⌜ r ≡ decodeClear Kind.MlsGlideDeviation word ⌝ }
+{
+    judged(
+        Verdict::Kept,
+        word,
+        Body::MlsGlideDeviation {
+            status: status_in(word),
+            inhibit: word / 1024 % 2 == 1,
+            clearance: word / 2048 % 2 == 1,
+            count: MlsCount(bits::signed_14_29(word)),
+        },
+    )
+}
+
+fn selected_azimuth(word: u32) -> Decoded
+    ensures { λ r. ⌜ r ≡ decodeClear Kind.SelectedAzimuth word ⌝ }
+{
+    judged(
+        kept_if(word / 524288 % 512 <= 359, Refusal::Value),
+        word,
+        Body::SelectedAzimuth {
+            status: status_in(word),
+            manual: word / 262144 % 2 == 1,
+            degrees: (word / 524288 % 512) as u16,
+        },
+    )
+}
+
+fn greatest_glide_angle(word: u32) -> Decoded
+    ensures { λ r. ⌜ r ≡ decodeClear Kind.GreatestGlideAngle word ⌝ }
+{
+    judged(
+        kept_if(bits::is_odd(word / 524288 % 512), Refusal::AngleParity),
+        word,
+        Body::GreatestGlideAngle {
+            status: status_in(word),
+            tenths: (word / 524288 % 256) as u16,
+        },
+    )
+}
+
+fn selected_glide_angle(word: u32) -> Decoded
+    ensures { λ r. ⌜ r ≡ decodeClear Kind.SelectedGlideAngle word ⌝ }
+{
+    judged(
+        Verdict::Kept,
+        word,
+        Body::SelectedGlideAngle {
+            status: status_in(word),
+            manual: word / 262144 % 2 == 1,
+            tenths: (word / 524288 % 512) as u16,
+        },
+    )
+}
+
+fn part_1(word: u32) -> Decoded
+    ensures { λ r. ⌜ r ≡ decodeClear Kind.Part1 word ⌝ }
+{
+    judged(
+        kept_if(word / 536870912 % 4 == 0, Refusal::Code),
+        word,
+        Body::Part1 {
+            word_number: (word / 8192 % 256) as u8,
+            content: (word / 2097152 % 256) as u8,
+        },
+    )
+}
+
+fn part_2(word: u32) -> Decoded
+    ensures { λ r. ⌜ r ≡ decodeClear Kind.Part2 word ⌝ }
+{
+    judged(
+        kept_if(word / 536870912 % 4 == 1, Refusal::Code),
+        word,
+        Body::Part2 {
+            content: (word / 8192 % 65536) as u16,
+        },
+    )
+}
+
+fn part_3(word: u32) -> Decoded
+    ensures { λ r. ⌜ r ≡ decodeClear Kind.Part3 word ⌝ }
+{
+    judged(
+        kept_if(word / 536870912 % 4 == 2, Refusal::Code),
+        word,
+        Body::Part3 {
+            content: (word / 8192 % 65536) as u16,
+        },
+    )
+}
+
+fn part_4(word: u32) -> Decoded
+    ensures { λ r. ⌜ r ≡ decodeClear Kind.Part4 word ⌝ }
+{
+    judged(
+        kept_if(word / 536870912 % 4 == 3, Refusal::Code),
+        word,
+        Body::Part4 {
+            parity_good: word / 1024 % 2 == 1,
+            content: (word / 8192 % 65536) as u16,
+        },
+    )
+}
+
+// A word of a known kind whose zero bits are zero.
+fn decode_clear(kind: Kind, word: u32) -> Decoded
+    ensures { λ r. ⌜ r ≡ decodeClear kind word ⌝ }
+{
     match kind {
-        Kind::VorAzimuth => Body::VorAzimuth {
-            status: status,
-            marker: marker,
-            count: azimuth,
-        },
-        Kind::VorFrequency => Body::VorFrequency {
-            status: decimal,
-            frequency: f.vhf,
-        },
-        Kind::IlsCourse => Body::IlsCourse {
-            status: status,
-            inhibit: f.first,
-            count: course,
-        },
-        Kind::IlsGlide => Body::IlsGlide {
-            status: status,
-            inhibit: f.first,
-            count: glide,
-        },
-        Kind::IlsFrequency => Body::IlsFrequency {
-            status: decimal,
-            category: category,
-            frequency: f.vhf,
-        },
-        Kind::MlsFrequency => Body::MlsFrequency {
-            status: decimal,
-            frequency: f.mls,
-        },
-        Kind::MlsAzimuthDeviation => Body::MlsAzimuthDeviation {
-            status: status,
-            inhibit: f.first,
-            clearance: f.second,
-            count: deviation,
-        },
-        Kind::MlsGlideDeviation => Body::MlsGlideDeviation {
-            status: status,
-            inhibit: f.first,
-            clearance: f.second,
-            count: deviation,
-        },
-        Kind::SelectedAzimuth => Body::SelectedAzimuth {
-            status: status,
-            manual: f.manual,
-            degrees: f.setting,
-        },
-        Kind::GreatestGlideAngle => Body::GreatestGlideAngle {
-            status: status,
-            tenths: f.tenths,
-        },
-        Kind::SelectedGlideAngle => Body::SelectedGlideAngle {
-            status: status,
-            manual: f.manual,
-            tenths: f.setting,
-        },
-        Kind::Part1 => Body::Part1 {
-            word_number: f.low,
-            content: f.high,
-        },
-        Kind::Part2 => Body::Part2 { content: f.content },
-        Kind::Part3 => Body::Part3 { content: f.content },
-        Kind::Part4 => Body::Part4 {
-            parity_good: f.first,
-            content: f.content,
-        },
+        Kind::VorAzimuth => vor_azimuth(word),
+        Kind::VorFrequency => vor_frequency(word),
+        Kind::IlsCourse => ils_course(word),
+        Kind::IlsGlide => ils_glide(word),
+        Kind::IlsFrequency => ils_frequency(word),
+        Kind::MlsFrequency => mls_frequency(word),
+        Kind::MlsAzimuthDeviation => mls_azimuth_deviation(word),
+        Kind::MlsGlideDeviation => mls_glide_deviation(word),
+        Kind::SelectedAzimuth => selected_azimuth(word),
+        Kind::GreatestGlideAngle => greatest_glide_angle(word),
+        Kind::SelectedGlideAngle => selected_glide_angle(word),
+        Kind::Part1 => part_1(word),
+        Kind::Part2 => part_2(word),
+        Kind::Part3 => part_3(word),
+        Kind::Part4 => part_4(word),
     }
 }
 
@@ -233,16 +335,7 @@ fn decode_kind(kind: Kind, word: u32) -> Decoded
     if word & zeros != 0 {
         return Decoded::Refused(Refusal::ZeroBit);
     }
-    match verdict_of(kind, word) {
-        Verdict::Kept => {
-            let source = (word / 256 % 4) as u8;
-            Decoded::Accepted(Record {
-                source: source,
-                body: body_from(kind, fields_in(word)),
-            })
-        }
-        Verdict::Broken(refusal) => Decoded::Refused(refusal),
-    }
+    decode_clear(kind, word)
 }
 
 // The record of a word, or its refusal.
@@ -252,7 +345,7 @@ pub fn decode(word: u32) -> Decoded
     if !bits::is_odd(word) {
         return Decoded::Refused(Refusal::Parity);
     }
-    match labels::find_kind(labels::label_of(word)) {
+    match labels::kind_in(word) {
         Lookup::Known(kind) => decode_kind(kind, word),
         Lookup::Unknown => Decoded::Refused(Refusal::Label),
     }

@@ -4,7 +4,6 @@ use mathlib.Core.Path.{sym, ap, _∙_}
 use borrow.Author.Tests.{not-true, not-false}
 use borrow.Author.Needs.{needs}
 use Rattle.labels.specs.declared.Lookup.{Lookup}
-use Rattle.labels.specs.Table.{rows, findKind}
 use Rattle.labels.specs.Assignment.{document01}
 use Rattle.decode.specs.Decode.{decodeFound, parity-broken, parity-kept}
 use Rattle.decode.proofs.decode.Statement.{statement}
@@ -16,11 +15,8 @@ is-odd-requires c κs = search needs
 returns : tie.Need-returns
 returns c = sym (parity-broken document01 (c .before .before .args .word) (sym (c .before .is-odd .ensures) ∙ not-true _ (c .if1 .taken)))
 
-label-of-requires : tie.Need-label-of-requires
-label-of-requires c κs = search needs
-
-find-kind-requires : tie.Need-find-kind-requires
-find-kind-requires c κs = search needs
+kind-in-requires : tie.Need-kind-in-requires
+kind-in-requires c κs = search needs
 
 enum-known-kind : tie.Need-enum-known-kind
 enum-known-kind c = search needs
@@ -33,18 +29,18 @@ enum-told c = search needs
 
 returns-2 : tie.Need-returns-2
 returns-2 c =
-    let w = c .before .before .before .before .before .before .before .before .args .word in
-    let found = sym (c .before .before .before .before .find-kind .ensures ∙ ap (findKind rows) (c .before .before .before .before .before .label-of .ensures)) ∙ c .before .before .kind .given .1 in
+    let w = c .before .before .before .before .before .before .before .args .word in
+    let found = sym (c .before .before .before .before .kind-in .ensures) ∙ c .before .before .kind .given .1 in
     c .decode-kind .ensures
     ∙ ap (λ (l : Lookup). decodeFound l w) (sym found)
-    ∙ sym (parity-kept document01 w (sym (c .before .before .before .before .before .before .before .is-odd .ensures) ∙ not-false _ (c .before .before .before .before .before .before .if1 .left)))
+    ∙ sym (parity-kept document01 w (sym (c .before .before .before .before .before .before .is-odd .ensures) ∙ not-false _ (c .before .before .before .before .before .if1 .left)))
 
 returns-3 : tie.Need-returns-3
 returns-3 c =
-    let w = c .before .before .before .before .before .before .args .word in
-    let found = sym (c .before .before .find-kind .ensures ∙ ap (findKind rows) (c .before .before .before .label-of .ensures)) ∙ c .enum-told .given .1 in
+    let w = c .before .before .before .before .before .args .word in
+    let found = sym (c .before .before .kind-in .ensures) ∙ c .enum-told .given .1 in
     ap (λ (l : Lookup). decodeFound l w) (sym found)
-    ∙ sym (parity-kept document01 w (sym (c .before .before .before .before .before .is-odd .ensures) ∙ not-false _ (c .before .before .before .before .if1 .left)))
+    ∙ sym (parity-kept document01 w (sym (c .before .before .before .before .is-odd .ensures) ∙ not-false _ (c .before .before .before .if1 .left)))
 
 pub decode-spec : {M : Type 1} → statement M
 decode-spec =
@@ -52,8 +48,7 @@ decode-spec =
     (tie.spec
     is-odd-requires
     returns
-    label-of-requires
-    find-kind-requires
+    kind-in-requires
     enum-known-kind
     decode-kind-requires
     enum-told
