@@ -137,7 +137,10 @@ words-few (f ∷ fs) = omega (arith, word-own (f .kind) (f .content), words-few 
 -- ---- the whole text
 
 -- The listing of every sheet has at most 117,085 bytes.
-pub text-short : (s : List ℕ) → length (textOf s) ≤ 117085
+abbrev pub longest : ℕ
+longest = 117085
+
+pub text-short : (s : List ℕ) → length (textOf s) ≤ longest
 text-short s = by (sheetOf s) refl
   where
     fields-owned : (fs : List Field) → sheetOf s ≡ Fields fs → owned fs ≤ 32768
@@ -152,7 +155,7 @@ text-short s = by (sheetOf s) refl
             let same : ownedIn (runOf 1 0 s) ≡ owned fs = ap ownedIn run in
             omega arith
 
-    by : (r : Scan) → sheetOf s ≡ r → length (listingOf r) ≤ 117085
+    by : (r : Scan) → sheetOf s ≡ r → length (listingOf r) ≤ longest
     by (Refused f p) e =
         let small : p < 2 ^ 64 = ⊎-elim (λ a. omega (arith, a .2)) (λ b. omega (arith, b .0, b .1 .offset .1)) (sheet-refusal s f p e) in
         omega (arith, refusal-line-length f p small)

@@ -9,6 +9,7 @@ use walk::FieldAt;
 use walk::Given;
 ghost use mathlib.Core.Path.{_≡_};
 ghost use Prim.Native.Nat.{_+_, _≤_};
+ghost use lib.Dec.{ltb};
 ghost use lib.ListN.{length};
 ghost use Rattle.fields.specs.Run.{sheetOf};
 ghost use Rattle.text.specs.Writing.{Writes};
@@ -139,6 +140,27 @@ fn put_listing(out: &mut [u8], sheet: &[u8]) -> usize
     }
 }
 
+// No sheet's listing has more bytes.
+const TEXT_LIMIT: usize = 117085;
+
+// The length of a sheet's listing: it is written, and one byte of it stored.
+fn text_length(sheet: &[u8]) -> usize
+    ensures { λ r. ⌜ r ≡ length (textOf (now (sheet .entry))) ⌝ }
+{
+    let mut first = [0u8; 1];
+    put_listing(&mut first, sheet)
+}
+
+// Whether a sheet's listing has more bytes than this. It is measured only where some listings do.
+fn is_longer(sheet: &[u8], room: usize) -> bool
+    ensures { λ r. ⌜ r ≡ ltb room (length (textOf (now (sheet .entry)))) ⌝ }
+{
+    if room < TEXT_LIMIT {
+        return room < text_length(sheet);
+    }
+    false
+}
+
 // What a listing into a buffer gives.
 pub enum Listed {
     // The text stands in the buffer's first bytes, as many as this.
@@ -152,11 +174,8 @@ pub fn list_sheet(sheet: &[u8], out: &mut [u8]) -> Listed
     ensures answer { λ r. ⌜ r ≡ listedOf (textOf (now (sheet .entry))) (now (out .entry)) ⌝ }
     ensures content { λ _. ⌜ now (out .exit) ≡ bufferOf (textOf (now (sheet .entry))) (now (out .entry)) ⌝ }
 {
-    let mut none = [0u8; 1];
-    let length = put_listing(&mut none, sheet);
-    if out.len() < length {
+    if is_longer(sheet, out.len()) {
         return Listed::Refused(Refusal::Room);
     }
-    put_listing(out, sheet);
-    Listed::Length(length)
+    Listed::Length(put_listing(out, sheet))
 }
