@@ -263,6 +263,13 @@ fn is_measured(measurement: Measurement, millionths: i64) -> bool
     }
 }
 
+// Whether a figure in millionths agrees with an accepted word of this body: its nearest count is the word's.
+pub fn body_agrees(body: Body, millionths: i64) -> bool
+    ensures { λ r. ⌜ r ≡ isMeasured (measurementOf body) millionths ⌝ }
+{
+    is_measured(measurement_of(body), millionths)
+}
+
 // Whether a figure in millionths agrees with a word: it is coded, under the word's label and source, to the word's count.
 pub fn agrees(word: u32, millionths: i64) -> bool
     ensures { λ r. ⌜ r ≡ agreesOf word millionths ⌝ }
@@ -270,7 +277,7 @@ pub fn agrees(word: u32, millionths: i64) -> bool
     match decode::decode(word) {
         Decoded::Accepted(record) => {
             let body = record.body;
-            is_measured(measurement_of(body), millionths)
+            body_agrees(body, millionths)
         }
         Decoded::Refused(_) => false,
     }

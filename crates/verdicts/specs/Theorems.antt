@@ -11,13 +11,16 @@ use lib.IntN.{ℤ}
 use Rattle.bits.specs.Laws.{both-true}
 use Rattle.records.specs.declared.Body.{Body}
 use Rattle.records.specs.declared.Record.{Record}
+use Rattle.records.specs.declared.Refusal.{Refusal}
 use Rattle.records.specs.declared.Status.{Status}
+use Rattle.labels.specs.Assignment.{document01}
 use Rattle.labels.specs.Label.{labelOf}
 use Rattle.decode.specs.Decode.{decodeOf}
 use Rattle.decode.specs.declared.Decoded.{Decoded}
 use Rattle.readings.specs.Readings.{shownUnder, readingOf}
 use Rattle.readings.specs.declared.Reading.{Reading}
-use Rattle.figures.specs.Agreement.{agreesOf, measurementOf}
+use Rattle.figures.specs.Agreement.{agreesOf, measurementOf, measured as measuredOf, isMeasured}
+use Rattle.figures.specs.Agreeing.{agrees-tested}
 use Rattle.verdicts.specs.declared.Previous.{Previous}
 use Rattle.verdicts.specs.declared.Verdict.{Verdict}
 use Rattle.verdicts.specs.Verdicts.{measured, shown, comparable, isComparable, verdictOf, measuredReading, measuredShown}
@@ -51,19 +54,18 @@ measured-shown (Body.Part2 c) = refl
 measured-shown (Body.Part3 c) = refl
 measured-shown (Body.Part4 g c) = refl
 
--- an accepted word is compared by its label and the unit of its reading
-pub comparable-by-unit : (w label : ℕ) {l : ℕ} {m : Bool} {r : Record} → decodeOf w ≡ Decoded.Accepted r → l ≡ labelOf w → m ≡ measuredShown (readingOf (r .body))
-    → eqb l label && m ≡ isComparable w label
-comparable-by-unit w label {l} {m} {r} d e k =
-    ap₂ (λ (x : ℕ) (y : Bool). eqb x label && y) e (k ∙ measured-shown (r .body))
-    ∙ sym (ap (λ (x : Decoded). comparable x (labelOf w) label) d)
+-- an accepted word is compared by its label and the unit of its reading, and then by its count
+pub accepted-verdict : (w label : ℕ) (z : ℤ) {r : Record} (l : ℕ) (m b : Bool) → decodeOf w ≡ Decoded.Accepted r → l ≡ labelOf w → m ≡ measuredShown (readingOf (r .body)) → eqb l label && m ≡ b
+    → cond b (cond (isMeasured (measurementOf (r .body)) z) Verdict.Agrees Verdict.Differs) Verdict.Unmatched ≡ verdictOf (Previous.Word w) label z
+accepted-verdict w label z {r} l m b d e k h =
+    ap₂ (λ (x y : Bool). cond x (cond y Verdict.Agrees Verdict.Differs) Verdict.Unmatched)
+    (sym h ∙ ap₂ (λ (x : ℕ) (y : Bool). eqb x label && y) e (k ∙ measured-shown (r .body)) ∙ sym (ap (λ (x : Decoded). comparable x (labelOf w) label) d))
+    (sym (ap (λ (x : Decoded). isMeasured (measuredOf x) z) d) ∙ sym (agrees-tested document01 z w))
 
--- the two tests of a word decide
-pub verdict-by : (w label : ℕ) (z : ℤ) {p : Previous} (b a : Bool) → p ≡ Previous.Word w → b ≡ isComparable w label → a ≡ agreesOf w z
-    → cond b (cond a Verdict.Agrees Verdict.Differs) Verdict.Unmatched ≡ verdictOf p label z
-verdict-by w label z b a e h k =
-    ap₂ (λ (x y : Bool). cond x (cond y Verdict.Agrees Verdict.Differs) Verdict.Unmatched) h k
-    ∙ sym (ap (λ (x : Previous). verdictOf x label z) e)
+-- and behind a refused word a figure is unmatched
+pub refused-verdict : (w label : ℕ) (z : ℤ) (f : Refusal) → decodeOf w ≡ Decoded.Refused f → Verdict.Unmatched ≡ verdictOf (Previous.Word w) label z
+refused-verdict w label z f d =
+    sym (ap (λ (x : Decoded). cond (comparable x (labelOf w) label) (cond (agreesOf w z) Verdict.Agrees Verdict.Differs) Verdict.Unmatched) d)
 
 -- ---- what the verdicts mean
 

@@ -2,9 +2,9 @@
 use decode::Decoded;
 use readings::Reading;
 use readings::Shown;
+ghost use mathlib.Core.Bool.{cond};
 ghost use mathlib.Core.Path.{_≡_};
-ghost use Rattle.decode.specs.Decode.{decodeOf};
-ghost use Rattle.verdicts.specs.Verdicts.{measuredReading, measuredShown, isComparable, verdictOf, isRefused};
+ghost use Rattle.verdicts.specs.Verdicts.{measuredReading, measuredShown, verdictOf, isRefused};
 
 // The field just before a figure in its group: a word, or anything else or nothing.
 pub enum Previous {
@@ -43,16 +43,29 @@ fn is_measured(shown: Shown) -> bool
     }
 }
 
-// Whether a word is an accepted measured one of this label, with a reading.
-fn is_comparable(word: u32, label: u8) -> bool
-    ensures { λ r. ⌜ r ≡ isComparable word label ⌝ }
+// The verdict on a figure that is compared with a word.
+fn compared(agrees: bool) -> Verdict
+    ensures { λ r. ⌜ r ≡ cond agrees Verdict.Agrees Verdict.Differs ⌝ }
+{
+    if agrees {
+        return Verdict::Agrees;
+    }
+    Verdict::Differs
+}
+
+// What the listing says of a figure of this label, in millionths, behind a word. The word is decoded once.
+fn word_verdict(word: u32, label: u8, millionths: i64) -> Verdict
+    ensures { λ r. ⌜ r ≡ verdictOf (Previous.Word word) label millionths ⌝ }
 {
     match decode::decode(word) {
         Decoded::Accepted(record) => {
             let body = record.body;
-            (labels::label_of(word) == label as u32) & is_measured(readings::reading_of(body))
+            if (labels::label_of(word) == label as u32) & is_measured(readings::reading_of(body)) {
+                return compared(figures::body_agrees(body, millionths));
+            }
+            Verdict::Unmatched
         }
-        Decoded::Refused(_) => false,
+        Decoded::Refused(_) => Verdict::Unmatched,
     }
 }
 
@@ -61,24 +74,16 @@ pub fn verdict_of(previous: Previous, label: u8, millionths: i64) -> Verdict
     ensures { λ r. ⌜ r ≡ verdictOf previous label millionths ⌝ }
 {
     match previous {
-        Previous::Word(word) => {
-            if is_comparable(word, label) {
-                if figures::agrees(word, millionths) {
-                    return Verdict::Agrees;
-                }
-                return Verdict::Differs;
-            }
-            Verdict::Unmatched
-        }
+        Previous::Word(word) => word_verdict(word, label, millionths),
         Previous::Other => Verdict::Unmatched,
     }
 }
 
-// Whether a word is refused.
-pub fn is_refused(word: u32) -> bool
-    ensures { λ r. ⌜ r ≡ isRefused (decodeOf word) ⌝ }
+// Whether a word is refused, by what it is decoded to.
+pub fn is_refused(decoded: Decoded) -> bool
+    ensures { λ r. ⌜ r ≡ isRefused decoded ⌝ }
 {
-    match decode::decode(word) {
+    match decoded {
         Decoded::Accepted(_) => false,
         Decoded::Refused(_) => true,
     }

@@ -16,21 +16,18 @@ decode-requires c κs = search needs
 enum-known-record : tie.Need-enum-known-record
 enum-known-record c = search needs
 
-measurement-of-requires : tie.Need-measurement-of-requires
-measurement-of-requires c κs = search needs
-
-is-measured-requires : tie.Need-is-measured-requires
-is-measured-requires c κs = search needs
+body-agrees-requires : tie.Need-body-agrees-requires
+body-agrees-requires c κs = search needs
 
 enum-told : tie.Need-enum-told
 enum-told c = search needs
 
 returns : tie.Need-returns
 returns c =
-    let start = c .before .before .before .before .before .before in
-    let decoded = sym (c .before .before .before .«record» .given .1) ∙ c .before .before .before .before .before .decode .ensures in
-    c .is-measured .ensures
-    ∙ ap₂ isMeasured (c .before .measurement-of .ensures ∙ ap measured decoded) (toZ-ofZ (start .fits .millionths))
+    let start = c .before .before .before .before .before in
+    let decoded = sym (c .before .before .«record» .given .1) ∙ c .before .before .before .before .decode .ensures in
+    c .body-agrees .ensures
+    ∙ ap₂ isMeasured (ap measured decoded) (toZ-ofZ (start .fits .millionths))
     ∙ sym (agrees-tested document01 (start .args .millionths) (start .args .word))
 
 returns-2 : tie.Need-returns-2
@@ -46,8 +43,7 @@ agrees-spec =
     (tie.spec
     decode-requires
     enum-known-record
-    measurement-of-requires
-    is-measured-requires
+    body-agrees-requires
     enum-told
     returns
     returns-2)
