@@ -12,6 +12,7 @@ use records::Refusal;
 use records::Status;
 ghost use mathlib.Core.Path.{_≡_};
 ghost use mathlib.Core.Bool.{cond};
+ghost use lib.Dec.{eqb};
 ghost use Rattle.bits.specs.Fields.{bits};
 ghost use Rattle.records.specs.Codes.{binaryStatus, decimalStatus};
 ghost use Rattle.decode.specs.Rules.{frequencyIn, decimal};
@@ -69,6 +70,13 @@ fn frequency_verdict(band: Band, word: u32) -> Verdict
     )
 }
 
+// The rule of a part: bits 30 and 31 are the part's code.
+fn part_verdict(code: u32, word: u32) -> Verdict
+    ensures { λ r. ⌜ r ≡ cond (eqb (bits 30 31 word) code) Verdict.Kept (Verdict.Broken Refusal.Code) ⌝ }
+{
+    kept_if(word / 536870912 % 4 == code, Refusal::Code)
+}
+
 // The status of a binary word, in bits 30 and 31.
 fn status_in(word: u32) -> Status
     ensures { λ r. ⌜ r ≡ binaryStatus (bits 30 31 word) ⌝ }
@@ -76,39 +84,77 @@ fn status_in(word: u32) -> Status
     records::binary_status(word / 536870912 % 4)
 }
 
-// The status of a decimal word.
+// The status of a decimal word, in bits 30 and 31.
 fn decimal_status_in(word: u32) -> Status
     ensures { λ r. ⌜ r ≡ decimalStatus (bits 30 31 word) ⌝ }
 {
     records::decimal_status(word / 536870912 % 4)
 }
 
-// The record of a word with this body and the word's source, or the rule that it breaks.
+// The flags in bits 11, 12 and 19.
+fn flag_11(word: u32) -> bool
+    ensures { λ r. ⌜ r ≡ eqb (bits 11 11 word) 1 ⌝ }
+{
+    word / 1024 % 2 == 1
+}
+
+fn flag_12(word: u32) -> bool
+    ensures { λ r. ⌜ r ≡ eqb (bits 12 12 word) 1 ⌝ }
+{
+    word / 2048 % 2 == 1
+}
+
+fn flag_19(word: u32) -> bool
+    ensures { λ r. ⌜ r ≡ eqb (bits 19 19 word) 1 ⌝ }
+{
+    word / 262144 % 2 == 1
+}
+
+// The setting in bits 20 to 28.
+fn setting_in(word: u32) -> u16
+    ensures { λ r. ⌜ r ≡ bits 20 28 word ⌝ }
+{
+    (word / 524288 % 512) as u16
+}
+
+// The content of parts 2 to 4, in bits 14 to 29.
+fn content_in(word: u32) -> u16
+    ensures { λ r. ⌜ r ≡ bits 14 29 word ⌝ }
+{
+    (word / 8192 % 65536) as u16
+}
+
+// The source, in bits 9 and 10.
+fn source_in(word: u32) -> u8
+    ensures { λ r. ⌜ r ≡ bits 9 10 word ⌝ }
+{
+    (word / 256 % 4) as u8
+}
+
+// The record of this body and the word's source, or the refusal for the rule that the word breaks.
 fn judged(verdict: Verdict, word: u32, body: Body) -> Decoded
     ensures { λ r. ⌜ r ≡ judged verdict (record { source = bits 9 10 word; body = body }) ⌝ }
 {
     match verdict {
-        Verdict::Kept => {
-            let source = (word / 256 % 4) as u8;
-            Decoded::Accepted(Record {
-                source: source,
-                body: body,
-            })
-        }
+        Verdict::Kept => Decoded::Accepted(Record {
+            source: source_in(word),
+            body: body,
+        }),
         Verdict::Broken(refusal) => Decoded::Refused(refusal),
     }
 }
 
-// The words of each kind.
+// A word of each kind whose zero bits are zero: its rules, and the fields that the kind has.
 fn vor_azimuth(word: u32) -> Decoded
     ensures { λ r. ⌜ r ≡ decodeClear Kind.VorAzimuth word ⌝ }
 {
+    let code = word / 1024 % 8;
     judged(
-        kept_if(records::is_marker(word / 1024 % 8), Refusal::Code),
+        kept_if(records::is_marker(code), Refusal::Code),
         word,
         Body::VorAzimuth {
             status: status_in(word),
-            marker: records::marker_of(word / 1024 % 8),
+            marker: records::marker_of(code),
             count: AzimuthCount(bits::signed_17_29(word)),
         },
     )
@@ -135,7 +181,7 @@ fn ils_course(word: u32) -> Decoded
         word,
         Body::IlsCourse {
             status: status_in(word),
-            inhibit: word / 1024 % 2 == 1,
+            inhibit: flag_11(word),
             count: CourseCount(bits::signed_17_29(word)),
         },
     )
@@ -149,7 +195,7 @@ fn ils_glide(word: u32) -> Decoded
         word,
         Body::IlsGlide {
             status: status_in(word),
-            inhibit: word / 1024 % 2 == 1,
+            inhibit: flag_11(word),
             count: GlideCount(bits::signed_17_29(word)),
         },
     )
@@ -190,8 +236,8 @@ fn mls_azimuth_deviation(word: u32) -> Decoded
         word,
         Body::MlsAzimuthDeviation {
             status: status_in(word),
-            inhibit: word / 1024 % 2 == 1,
-            clearance: word / 2048 % 2 == 1,
+            inhibit: flag_11(word),
+            clearance: flag_12(word),
             count: MlsCount(bits::signed_14_29(word)),
         },
     )
@@ -205,8 +251,8 @@ fn mls_glide_deviation(word: u32) -> Decoded
         word,
         Body::MlsGlideDeviation {
             status: status_in(word),
-            inhibit: word / 1024 % 2 == 1,
-            clearance: word / 2048 % 2 == 1,
+            inhibit: flag_11(word),
+            clearance: flag_12(word),
             count: MlsCount(bits::signed_14_29(word)),
         },
     )
@@ -220,8 +266,8 @@ fn selected_azimuth(word: u32) -> Decoded
         word,
         Body::SelectedAzimuth {
             status: status_in(word),
-            manual: word / 262144 % 2 == 1,
-            degrees: (word / 524288 % 512) as u16,
+            manual: flag_19(word),
+            degrees: setting_in(word),
         },
     )
 }
@@ -247,8 +293,8 @@ fn selected_glide_angle(word: u32) -> Decoded
         word,
         Body::SelectedGlideAngle {
             status: status_in(word),
-            manual: word / 262144 % 2 == 1,
-            tenths: (word / 524288 % 512) as u16,
+            manual: flag_19(word),
+            tenths: setting_in(word),
         },
     )
 }
@@ -257,7 +303,7 @@ fn part_1(word: u32) -> Decoded
     ensures { λ r. ⌜ r ≡ decodeClear Kind.Part1 word ⌝ }
 {
     judged(
-        kept_if(word / 536870912 % 4 == 0, Refusal::Code),
+        part_verdict(0, word),
         word,
         Body::Part1 {
             word_number: (word / 8192 % 256) as u8,
@@ -270,10 +316,10 @@ fn part_2(word: u32) -> Decoded
     ensures { λ r. ⌜ r ≡ decodeClear Kind.Part2 word ⌝ }
 {
     judged(
-        kept_if(word / 536870912 % 4 == 1, Refusal::Code),
+        part_verdict(1, word),
         word,
         Body::Part2 {
-            content: (word / 8192 % 65536) as u16,
+            content: content_in(word),
         },
     )
 }
@@ -282,10 +328,10 @@ fn part_3(word: u32) -> Decoded
     ensures { λ r. ⌜ r ≡ decodeClear Kind.Part3 word ⌝ }
 {
     judged(
-        kept_if(word / 536870912 % 4 == 2, Refusal::Code),
+        part_verdict(2, word),
         word,
         Body::Part3 {
-            content: (word / 8192 % 65536) as u16,
+            content: content_in(word),
         },
     )
 }
@@ -294,11 +340,11 @@ fn part_4(word: u32) -> Decoded
     ensures { λ r. ⌜ r ≡ decodeClear Kind.Part4 word ⌝ }
 {
     judged(
-        kept_if(word / 536870912 % 4 == 3, Refusal::Code),
+        part_verdict(3, word),
         word,
         Body::Part4 {
-            parity_good: word / 1024 % 2 == 1,
-            content: (word / 8192 % 65536) as u16,
+            parity_good: flag_11(word),
+            content: content_in(word),
         },
     )
 }

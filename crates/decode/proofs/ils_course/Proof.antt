@@ -9,6 +9,9 @@ use Rattle.decode.proofs.ils_course.Tie as tie
 status-in-requires : tie.Need-status-in-requires
 status-in-requires c κs = search needs
 
+flag-11-requires : tie.Need-flag-11-requires
+flag-11-requires c κs = search needs
+
 signed-17-29-requires : tie.Need-signed-17-29-requires
 signed-17-29-requires c κs = search needs
 
@@ -21,8 +24,9 @@ returns c =
       c .judged .ensures,
       toZ-ofZ {w = w16} {z = c .before .signed-17-29 .result} (search needs),
       c .before .signed-17-29 .ensures,
-      c .before .before .status-in .ensures,
+      c .before .before .flag-11 .ensures,
+      c .before .before .before .status-in .ensures,
     )
 
 pub ils-course-spec : {M : Type 1} → statement M
-ils-course-spec = tie.close (tie.spec status-in-requires signed-17-29-requires judged-requires returns)
+ils-course-spec = tie.close (tie.spec status-in-requires flag-11-requires signed-17-29-requires judged-requires returns)

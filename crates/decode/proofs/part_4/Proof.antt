@@ -4,11 +4,14 @@ use borrow.Author.Needs.{needs}
 use Rattle.decode.proofs.part_4.Statement.{statement}
 use Rattle.decode.proofs.part_4.Tie as tie
 
-kept-if-requires : tie.Need-kept-if-requires
-kept-if-requires c κs = search needs
+part-verdict-requires : tie.Need-part-verdict-requires
+part-verdict-requires c κs = search needs
 
-cast-t12 : tie.Need-cast-t12
-cast-t12 c = search needs
+flag-11-requires : tie.Need-flag-11-requires
+flag-11-requires c κs = search needs
+
+content-in-requires : tie.Need-content-in-requires
+content-in-requires c κs = search needs
 
 judged-requires : tie.Need-judged-requires
 judged-requires c κs = search needs
@@ -17,8 +20,10 @@ returns : tie.Need-returns
 returns c =
     rw (
       c .judged .ensures,
-      c .before .kept-if .ensures,
+      c .before .content-in .ensures,
+      c .before .before .flag-11 .ensures,
+      c .before .before .before .part-verdict .ensures,
     )
 
 pub part-4-spec : {M : Type 1} → statement M
-part-4-spec = tie.close (tie.spec kept-if-requires cast-t12 judged-requires returns)
+part-4-spec = tie.close (tie.spec part-verdict-requires flag-11-requires content-in-requires judged-requires returns)

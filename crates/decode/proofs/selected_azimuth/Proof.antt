@@ -10,8 +10,11 @@ kept-if-requires c κs = search needs
 status-in-requires : tie.Need-status-in-requires
 status-in-requires c κs = search needs
 
-cast-t13 : tie.Need-cast-t13
-cast-t13 c = search needs
+flag-19-requires : tie.Need-flag-19-requires
+flag-19-requires c κs = search needs
+
+setting-in-requires : tie.Need-setting-in-requires
+setting-in-requires c κs = search needs
 
 judged-requires : tie.Need-judged-requires
 judged-requires c κs = search needs
@@ -20,9 +23,11 @@ returns : tie.Need-returns
 returns c =
     rw (
       c .judged .ensures,
-      c .before .status-in .ensures,
-      c .before .before .kept-if .ensures,
+      c .before .setting-in .ensures,
+      c .before .before .flag-19 .ensures,
+      c .before .before .before .status-in .ensures,
+      c .before .before .before .before .kept-if .ensures,
     )
 
 pub selected-azimuth-spec : {M : Type 1} → statement M
-selected-azimuth-spec = tie.close (tie.spec kept-if-requires status-in-requires cast-t13 judged-requires returns)
+selected-azimuth-spec = tie.close (tie.spec kept-if-requires status-in-requires flag-19-requires setting-in-requires judged-requires returns)

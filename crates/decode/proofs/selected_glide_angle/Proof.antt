@@ -7,8 +7,11 @@ use Rattle.decode.proofs.selected_glide_angle.Tie as tie
 status-in-requires : tie.Need-status-in-requires
 status-in-requires c κs = search needs
 
-cast-t9 : tie.Need-cast-t9
-cast-t9 c = search needs
+flag-19-requires : tie.Need-flag-19-requires
+flag-19-requires c κs = search needs
+
+setting-in-requires : tie.Need-setting-in-requires
+setting-in-requires c κs = search needs
 
 judged-requires : tie.Need-judged-requires
 judged-requires c κs = search needs
@@ -17,8 +20,10 @@ returns : tie.Need-returns
 returns c =
     rw (
       c .judged .ensures,
-      c .before .status-in .ensures,
+      c .before .setting-in .ensures,
+      c .before .before .flag-19 .ensures,
+      c .before .before .before .status-in .ensures,
     )
 
 pub selected-glide-angle-spec : {M : Type 1} → statement M
-selected-glide-angle-spec = tie.close (tie.spec status-in-requires cast-t9 judged-requires returns)
+selected-glide-angle-spec = tie.close (tie.spec status-in-requires flag-19-requires setting-in-requires judged-requires returns)
