@@ -1,4 +1,5 @@
 pub mod Coding
+pub mod Ready
 pub mod Agreement
 pub mod Demand
 pub mod Words

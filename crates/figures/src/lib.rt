@@ -9,19 +9,15 @@ use records::Body;
 use records::CourseCount;
 use records::GlideCount;
 use records::Kind;
-use records::Marker;
 use records::MlsCount;
-use records::Record;
 use records::Refusal;
-use records::Status;
 ghost use mathlib.Core.Path.{_≡_};
 ghost use Prim.Native.Nat.{_≤_};
 ghost use Rattle.labels.specs.Assignment.{document01};
 ghost use Rattle.quantities.specs.Nearest.{millionthsOf};
-ghost use Rattle.quantities.specs.Statements.{Legal};
-ghost use Rattle.quantities.specs.Scale.{scaleOf};
 ghost use Rattle.encode.specs.Encode.{wordOf};
-ghost use Rattle.figures.specs.Coding.{quantityOf, quantityAt, readyBody, readyRecord, codedQuantity, codedOf};
+ghost use Rattle.figures.specs.Coding.{quantityOf, kindFor, quantityAt, readyRecord, codedQuantity, codedOf};
+ghost use Rattle.figures.specs.Ready.{narrowBits, wideBits, readyBits};
 ghost use Rattle.figures.specs.Agreement.{measurementOf, isNearest, isMeasured, agreesOf};
 
 // The measured quantity of a kind of word, or none.
@@ -72,50 +68,55 @@ fn find_quantity(label: u64) -> Measured
     }
 }
 
-// The body of a ready word of this count, every other field zero.
-fn ready_body(quantity: Quantity, count: i16) -> Body
-    ensures { λ r. ⌜ r ≡ readyBody quantity count ⌝ }
+// The kind of word that a quantity has.
+fn kind_for(quantity: Quantity) -> Kind
+    ensures { λ r. ⌜ r ≡ kindFor quantity ⌝ }
 {
     match quantity {
-        Quantity::Azimuth => Body::VorAzimuth {
-            status: Status::Ready,
-            marker: Marker::None,
-            count: AzimuthCount(count),
-        },
-        Quantity::Course => Body::IlsCourse {
-            status: Status::Ready,
-            inhibit: false,
-            count: CourseCount(count),
-        },
-        Quantity::Glide => Body::IlsGlide {
-            status: Status::Ready,
-            inhibit: false,
-            count: GlideCount(count),
-        },
-        Quantity::MlsAzimuth => Body::MlsAzimuthDeviation {
-            status: Status::Ready,
-            inhibit: false,
-            clearance: false,
-            count: MlsCount(count),
-        },
-        Quantity::MlsGlide => Body::MlsGlideDeviation {
-            status: Status::Ready,
-            inhibit: false,
-            clearance: false,
-            count: MlsCount(count),
-        },
+        Quantity::Azimuth => Kind::VorAzimuth,
+        Quantity::Course => Kind::IlsCourse,
+        Quantity::Glide => Kind::IlsGlide,
+        Quantity::MlsAzimuth => Kind::MlsAzimuthDeviation,
+        Quantity::MlsGlide => Kind::MlsGlideDeviation,
     }
 }
 
-// The ready word of a legal count.
-fn ready_word(quantity: Quantity, source: u8, count: i16) -> Encoded
-    requires { ⌜ (source ≤ 3) × Legal (scaleOf quantity) count ⌝ }
-    ensures { λ r. ⌜ r ≡ Encoded.Word (wordOf document01 (readyRecord quantity source count)) ⌝ }
+// Bits 11 to 31 of a ready word with a count of 13 bits: the status 3 above it, and zero below.
+fn narrow_bits(count: i16) -> u32
+    ensures { λ r. ⌜ r ≡ narrowBits count ⌝ }
 {
-    encode::encode(Record {
-        source: source,
-        body: ready_body(quantity, count),
-    })
+    (3 * 8192 + bits::complement_13(count)) * 64
+}
+
+// The same with a count of 16 bits.
+fn wide_bits(count: i16) -> u32
+    ensures { λ r. ⌜ r ≡ wideBits count ⌝ }
+{
+    (3 * 65536 + bits::complement_16(count)) * 8
+}
+
+// Bits 11 to 31 of the ready word of a count.
+fn ready_bits(quantity: Quantity, count: i16) -> u32
+    ensures { λ r. ⌜ r ≡ readyBits quantity count ⌝ }
+{
+    match quantity {
+        Quantity::Azimuth => narrow_bits(count),
+        Quantity::Course => narrow_bits(count),
+        Quantity::Glide => narrow_bits(count),
+        Quantity::MlsAzimuth => wide_bits(count),
+        Quantity::MlsGlide => wide_bits(count),
+    }
+}
+
+// The ready word of a count.
+fn ready_word(quantity: Quantity, source: u8, count: i16) -> u32
+    requires { ⌜ source ≤ 3 ⌝ }
+    ensures { λ r. ⌜ r ≡ wordOf document01 (readyRecord quantity source count) ⌝ }
+{
+    let row = labels::row_of(kind_for(quantity));
+    let label = row.label;
+    let lower = (ready_bits(quantity, count) * 4 + source as u32) * 256 + labels::label_of(label);
+    bits::parity_bit(lower) * 2147483648 + lower
 }
 
 // A figure of a quantity.
@@ -126,8 +127,21 @@ fn code_quantity(quantity: Quantity, source: u64, millionths: i64) -> Encoded
         return Encoded::Refused(Refusal::Code);
     }
     match quantities::nearest_count(quantity, millionths) {
-        Nearest::Count(count) => ready_word(quantity, source as u8, count),
+        Nearest::Count(count) => Encoded::Word(ready_word(quantity, source as u8, count)),
         Nearest::OutOfReach => Encoded::Refused(Refusal::Reach),
+    }
+}
+
+// A figure of a quantity, in one case for each, so that the compiler knows the step and the label in it.
+fn code_by_quantity(quantity: Quantity, source: u64, millionths: i64) -> Encoded
+    ensures { λ r. ⌜ r ≡ codedQuantity document01 quantity source millionths ⌝ }
+{
+    match quantity {
+        Quantity::Azimuth => code_quantity(Quantity::Azimuth, source, millionths),
+        Quantity::Course => code_quantity(Quantity::Course, source, millionths),
+        Quantity::Glide => code_quantity(Quantity::Glide, source, millionths),
+        Quantity::MlsAzimuth => code_quantity(Quantity::MlsAzimuth, source, millionths),
+        Quantity::MlsGlide => code_quantity(Quantity::MlsGlide, source, millionths),
     }
 }
 
@@ -136,7 +150,7 @@ pub fn code_figure(label: u64, source: u64, millionths: i64) -> Encoded
     ensures { λ r. ⌜ r ≡ codedOf label source millionths ⌝ }
 {
     match find_quantity(label) {
-        Measured::As(quantity) => code_quantity(quantity, source, millionths),
+        Measured::As(quantity) => code_by_quantity(quantity, source, millionths),
         Measured::Nothing => Encoded::Refused(Refusal::Label),
     }
 }

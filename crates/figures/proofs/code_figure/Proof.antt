@@ -15,8 +15,8 @@ find-quantity-requires c κs = search needs
 enum-known-quantity : tie.Need-enum-known-quantity
 enum-known-quantity c = search needs
 
-code-quantity-requires : tie.Need-code-quantity-requires
-code-quantity-requires c κs = search needs
+code-by-quantity-requires : tie.Need-code-by-quantity-requires
+code-by-quantity-requires c κs = search needs
 
 enum-told : tie.Need-enum-told
 enum-told c = search needs
@@ -25,7 +25,7 @@ returns : tie.Need-returns
 returns c =
     let start = c .before .before .before .before .before in
     let q = c .before .before .quantity .given in
-    c .code-quantity .ensures
+    c .code-by-quantity .ensures
     ∙ ap (codedQuantity document01 (q .0 .0) (start .args .source)) (toZ-ofZ (start .fits .millionths))
     ∙ ap (λ (m : Measured). codedMeasured document01 m (start .args .source) (start .args .millionths))
     (sym (q .1) ∙ c .before .before .before .before .find-quantity .ensures)
@@ -42,7 +42,7 @@ code-figure-spec =
     (tie.spec
     find-quantity-requires
     enum-known-quantity
-    code-quantity-requires
+    code-by-quantity-requires
     enum-told
     returns
     returns-2)

@@ -1,26 +1,18 @@
--- The source, then the nearest count, which is legal, so that its word is written.
+-- The source, then the nearest count and its word.
 -- Assumes nothing.
-use mathlib.Core.Path.{_≡_, sym, ap, subst⁻¹, _∙_}
+use mathlib.Core.Path.{sym, ap, _∙_}
 use borrow.Author.Needs.{needs}
 use lib.IntN.{ℤ}
-use mir.Syntax.{w16, w64}
-use mir.Val.{SFits, toZ, ofZ}
+use mir.Syntax.{w16}
 use mir.Facts.{toZ-ofZ}
 use Rattle.labels.specs.Assignment.{document01}
-use Rattle.quantities.specs.Scale.{scaleOf}
 use Rattle.quantities.specs.Nearest.{nearestCount}
-use Rattle.quantities.specs.Statements.{Legal}
-use Rattle.quantities.specs.Theorems.{coded}
 use Rattle.quantities.specs.declared.Nearest.{Nearest}
-use Rattle.quantities.specs.declared.Quantity.{Quantity}
 use Rattle.figures.specs.Coding.{codedNearest}
 use Rattle.figures.specs.Words.{legal-source, illegal-source}
+use Rattle.encode.specs.declared.Encoded.{Encoded}
 use Rattle.figures.proofs.code_quantity.Statement.{statement}
 use Rattle.figures.proofs.code_quantity.Tie as tie
-
--- the figure and the count as they went through the call
-found : (q : Quantity) (figure n : ℤ) (r : Nearest) → SFits w64 figure → r ≡ nearestCount q (toZ w64 (ofZ w64 figure)) → r ≡ Nearest.Count n → nearestCount q figure ≡ Nearest.Count n
-found q figure n r f e h = ap (nearestCount q) (sym (toZ-ofZ f)) ∙ sym e ∙ h
 
 returns : tie.Need-returns
 returns c = sym (illegal-source document01 (c .before .args .quantity) (c .before .args .source) (c .before .args .millionths) (search needs))
@@ -35,15 +27,7 @@ cast-ready-word : tie.Need-cast-ready-word
 cast-ready-word c = search needs
 
 ready-word-requires : tie.Need-ready-word-requires
-ready-word-requires c κs =
-    let start = c .before .before .before .before .before in
-    let q = start .args .quantity in
-    let n = c .before .count .given in
-    let nearest = c .before .before .before .nearest-count in (
-      search needs,
-      subst⁻¹ (Legal (scaleOf q)) (toZ-ofZ {w = w16} {z = n .0 .0} (search needs))
-          (coded q (start .args .millionths) (n .0 .0) (found q (start .args .millionths) (n .0 .0) (nearest .result) (start .fits .millionths) (nearest .ensures) (n .1)) .legal),
-    )
+ready-word-requires c κs = search needs
 
 enum-told : tie.Need-enum-told
 enum-told c = search needs
@@ -55,9 +39,9 @@ returns-2 c =
     let s = start .args .source in
     let n = c .before .before .count .given in
     let nearest = c .before .before .before .before .nearest-count in
-    c .ready-word .ensures
+    ap Encoded.Word (c .ready-word .ensures)
     ∙ ap (λ (z : ℤ). codedNearest document01 q s (Nearest.Count z)) (toZ-ofZ {w = w16} {z = n .0 .0} (search needs))
-    ∙ ap (codedNearest document01 q s) (sym (found q (start .args .millionths) (n .0 .0) (nearest .result) (start .fits .millionths) (nearest .ensures) (n .1)))
+    ∙ ap (codedNearest document01 q s) (sym (n .1) ∙ nearest .ensures ∙ ap (nearestCount q) (toZ-ofZ (start .fits .millionths)))
     ∙ sym (legal-source document01 q s (start .args .millionths) (search needs))
 
 returns-3 : tie.Need-returns-3

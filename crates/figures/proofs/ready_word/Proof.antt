@@ -1,28 +1,89 @@
--- The record of a legal count and source is legal, so it is written.
+-- The label's byte, the source, the status, the count and the parity bit are the joined word, and every sum fits.
 -- Assumes nothing.
-use mathlib.Core.Path.{ap, _∙_}
+use mathlib.Core.Path.{_≡_, sym, ap, ap₂, _∙_, subst}
+use Prim.Native.Nat.{ℕ, _+_, _*_, _<_}
+use native.Mathlib.Omega.{arith}
 use borrow.Author.Needs.{needs}
 use mir.Facts.{toZ-ofZ}
-use Rattle.figures.specs.Coding.{readyBody}
-use Rattle.records.specs.declared.Body.{Body}
+use Rattle.bits.specs.Parity.{withParity}
+use Rattle.labels.specs.declared.Row.{Row}
 use Rattle.labels.specs.Assignment.{document01}
-use Rattle.encode.specs.Encode.{encodeOf}
-use Rattle.figures.specs.Words.{ready-encoded}
+use Rattle.labels.specs.Label.{labelOf, label-lt}
+use Rattle.labels.specs.Table.{rowOf}
+use Rattle.figures.specs.Coding.{labelFor}
+use Rattle.figures.specs.Ready.{readyBits, ready-small, ready-lower}
 use Rattle.figures.proofs.ready_word.Statement.{statement}
 use Rattle.figures.proofs.ready_word.Tie as tie
 
-ready-body-requires : tie.Need-ready-body-requires
-ready-body-requires c κs = search needs
+-- bits 11 to 31
+upper-is : (c : tie.After-ready-bits) → c .ready-bits .result ≡ readyBits (c .before .before .before .args .quantity) (c .before .before .before .args .count)
+upper-is c = c .ready-bits .ensures ∙ ap (readyBits (c .before .before .before .args .quantity)) (toZ-ofZ (c .before .before .before .fits .count))
 
-encode-requires : tie.Need-encode-requires
-encode-requires c κs = search needs
+upper-small : (c : tie.After-ready-bits) → c .ready-bits .result < 2097152
+upper-small c = subst (λ (x : ℕ). x < 2097152) (sym (upper-is c)) (ready-small (c .before .before .before .args .quantity) (c .before .before .before .args .count))
+
+-- the byte of the quantity's label
+byte-is : (c : tie.After-label-of) → c .label-of .result ≡ labelOf (labelFor document01 (c .before .before .before .before .args .quantity))
+unfolding rowOf
+byte-is c = c .label-of .ensures ∙ ap (λ (r : Row). labelOf (r .label)) (c .before .before .row-of .ensures ∙ ap rowOf (c .before .before .before .kind-for .ensures))
+
+byte-small : (c : tie.After-label-of) → c .label-of .result < 256
+byte-small c = omega (arith, byte-is c, label-lt (labelFor document01 (c .before .before .before .before .args .quantity)))
+
+kind-for-requires : tie.Need-kind-for-requires
+kind-for-requires c κs = search needs
+
+row-of-requires : tie.Need-row-of-requires
+row-of-requires c κs = search needs
+
+ready-bits-requires : tie.Need-ready-bits-requires
+ready-bits-requires c κs = search needs
+
+mul-lower : tie.Need-mul-lower
+mul-lower c = omega (arith, upper-small c)
+
+add-lower : tie.Need-add-lower
+add-lower c = omega (arith, upper-small c)
+
+mul-lower-2 : tie.Need-mul-lower-2
+mul-lower-2 c = omega (arith, upper-small c)
+
+label-of-requires : tie.Need-label-of-requires
+label-of-requires c κs = search needs
+
+add-lower-2 : tie.Need-add-lower-2
+add-lower-2 c = omega (arith, upper-small (c .before), byte-small c)
+
+parity-bit-requires : tie.Need-parity-bit-requires
+parity-bit-requires c κs = search needs
+
+mul-result : tie.Need-mul-result
+mul-result c = search needs
+
+add-result : tie.Need-add-result
+add-result c = omega (arith, upper-small (c .before .before), byte-small (c .before))
 
 returns : tie.Need-returns
 returns c =
-    let start = c .before .before in
-    c .encode .ensures
-    ∙ ap (λ (b : Body). encodeOf (record { source = start .args .source; body = b })) (c .before .ready-body .ensures ∙ ap (readyBody (start .args .quantity)) (toZ-ofZ (start .fits .count)))
-    ∙ ready-encoded document01 (start .args .quantity) (start .args .source) (start .args .count) (start .pre .0) (start .pre .1)
+    let a = c .before .before .before .before .before .args in
+    let lower : ℕ → ℕ → ℕ = λ u b. (u * 4 + a .source) * 256 + b in
+    ap (λ (p : ℕ). p * 2147483648 + lower (c .before .before .ready-bits .result) (c .before .label-of .result)) (c .parity-bit .ensures .0)
+    ∙ ap (withParity 31)
+    (ap₂ lower (upper-is (c .before .before)) (byte-is (c .before)) ∙ sym (ready-lower document01 (a .quantity) (a .source) (a .count)))
 
 pub ready-word-spec : {M : Type 1} → statement M
-ready-word-spec = tie.close (tie.spec ready-body-requires encode-requires returns)
+ready-word-spec =
+    tie.close
+    (tie.spec
+    kind-for-requires
+    row-of-requires
+    ready-bits-requires
+    mul-lower
+    add-lower
+    mul-lower-2
+    label-of-requires
+    add-lower-2
+    parity-bit-requires
+    mul-result
+    add-result
+    returns)
