@@ -36,7 +36,7 @@ use Rattle.columns.specs.Columns.{wholeFigure, signedFigure, statusColumns, par
 use Rattle.columns.specs.declared.Figure.{Figure}
 use Rattle.columns.specs.declared.Columns.{Columns}
 use Rattle.verdicts.specs.declared.Verdict.{Verdict}
-use Rattle.lines.specs.Lines.{markText, figureText, recordLine, refusedLine, lineOf, wordLine, verdictLine, totalLine, refusalLine}
+use Rattle.lines.specs.Lines.{markText, figureText, recordLine, refusedLine, decodedLine, wordLine, verdictLine, totalLine, refusalLine}
 
 -- ---- figures
 
@@ -151,10 +151,10 @@ refused-length f = simp length-append (omega (arith, decimal-length 1 (numberOf 
 pub word-line-length : (w : ℕ) → length (wordLine w) ≤ 25
 word-line-length w = go (decodeOf w) refl
   where
-    go : (d : Decoded) → decodeOf w ≡ d → length (lineOf d (labelOf w)) ≤ 25
+    go : (d : Decoded) → decodeOf w ≡ d → length (decodedLine d (labelOf w)) ≤ 25
     go (Decoded.Accepted r) e =
         let a = accepted document01 w r e in
-        subst⁻¹ (λ (x : Record). length (lineOf (Decoded.Accepted x) (labelOf w)) ≤ 25) (a .2)
+        subst⁻¹ (λ (x : Record). length (decodedLine (Decoded.Accepted x) (labelOf w)) ≤ 25) (a .2)
         (record-short (labelOf w) (bits 9 10 w) (columnsOf (bodyOf (a .0) w)) (omega arith) (columns-short (a .0) w))
     go (Decoded.Refused f) e = omega (arith, refused-length f)
 

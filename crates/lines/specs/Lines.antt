@@ -46,13 +46,13 @@ abbrev pub refusedLine : Refusal → List ℕ
 refusedLine refusal = ascii "refused " ++ decimal (numberOf refusal) ++ ascii "\n"
 
 -- the line of a word by what decoding gives of it
-abbrev pub lineOf : Decoded → ℕ → List ℕ
-lineOf (Decoded.Accepted r) label = recordLine label (r .source) (columnsOf (r .body))
-lineOf (Decoded.Refused refusal) label = refusedLine refusal
+abbrev pub decodedLine : Decoded → ℕ → List ℕ
+decodedLine (Decoded.Accepted r) label = recordLine label (r .source) (columnsOf (r .body))
+decodedLine (Decoded.Refused refusal) label = refusedLine refusal
 
 -- the line of a word
 abbrev pub wordLine : ℕ → List ℕ
-wordLine w = lineOf (decodeOf w) (labelOf w)
+wordLine w = decodedLine (decodeOf w) (labelOf w)
 
 -- the line of a figure
 abbrev pub verdictLine : Verdict → List ℕ

@@ -9,7 +9,7 @@ use verdicts::Previous;
 use verdicts::Verdict;
 ghost use Rattle.text.specs.Writing.{Writes};
 ghost use Rattle.verdicts.specs.Verdicts.{verdictOf};
-ghost use Rattle.lines.specs.Lines.{statusText, markText, figureText, heading, marked, recordLine, refusedLine, wordLine, verdictLine, totalLine, refusalLine};
+ghost use Rattle.lines.specs.Lines.{statusText, markText, figureText, heading, marked, recordLine, refusedLine, decodedLine, verdictLine, totalLine, refusalLine};
 
 // A status.
 fn put_status(out: &mut [u8], at: usize, status: Status) -> usize
@@ -85,15 +85,15 @@ fn put_refused_line(out: &mut [u8], at: usize, refusal: Refusal) -> usize
     text::put_byte(out, end, 10)
 }
 
-// The line of a word.
-pub fn put_word_line(out: &mut [u8], at: usize, word: u32) -> usize
-    ensures { λ r. ⌜ Writes (now (out .entry)) at (wordLine word) (now (out .exit)) r ⌝ }
+// The line of a word of this label, by what it is decoded to.
+pub fn put_decoded_line(out: &mut [u8], at: usize, label: u32, decoded: Decoded) -> usize
+    ensures { λ r. ⌜ Writes (now (out .entry)) at (decodedLine decoded label) (now (out .exit)) r ⌝ }
 {
-    match decode::decode(word) {
+    match decoded {
         Decoded::Accepted(record) => {
             let body = record.body;
             let columns = columns::columns_of(body);
-            put_record_line(out, at, labels::label_of(word), record.source, columns)
+            put_record_line(out, at, label, record.source, columns)
         }
         Decoded::Refused(refusal) => put_refused_line(out, at, refusal),
     }

@@ -3,7 +3,6 @@ use contents::FigureIn;
 use contents::WordIn;
 use fields::FieldKind;
 use records::Refusal;
-use totals::Counted;
 use verdicts::Previous;
 use walk::FieldAt;
 use walk::Given;
@@ -11,10 +10,9 @@ ghost use mathlib.Core.Path.{_≡_};
 ghost use Prim.Native.Nat.{_+_, _≤_};
 ghost use lib.Dec.{ltb};
 ghost use lib.ListN.{length};
-ghost use Rattle.fields.specs.Run.{sheetOf};
 ghost use Rattle.text.specs.Writing.{Writes};
-ghost use Rattle.listing.specs.Listing.{previous, linesIn, textOf, listedOf, bufferOf};
-ghost use Rattle.listing.specs.Turn.{Lists, ListsField, passedBy};
+ghost use Rattle.listing.specs.Listing.{previous, textOf, listedOf, bufferOf};
+ghost use Rattle.listing.specs.Turn.{Countable, Lists, ListsField, passedBy};
 
 // What stands just before a field, as far as a figure is tested against it.
 pub enum Before {
@@ -24,10 +22,12 @@ pub enum Before {
     Word(u8, u32),
 }
 
-// Where a listing stands: the place of the next line, and what stands just before.
+// Where a listing stands: the place of the next line, what stands just before, and how many words there were and how many of them are refused.
 struct Progress {
     at: usize,
     before: Before,
+    words: u64,
+    refused: u64,
 }
 
 // What a figure at a depth is tested against.
@@ -45,16 +45,30 @@ fn previous_of(before: Before, depth: u8) -> Previous
     }
 }
 
-// A word field.
+// A word field. The word is decoded once, for its line and for the count.
 fn put_word(out: &mut [u8], progress: Progress, depth: u8, content: &[u8]) -> Progress
+    requires { ⌜ Countable progress ⌝ }
     ensures { λ r. ⌜ Lists (now (out .entry)) progress FieldKind.Word depth (now (content .entry)) (now (out .exit)) r ⌝ }
 {
+    let words = progress.words + 1;
     match contents::word_in(content) {
-        WordIn::Word(word) => Progress {
-            at: lines::put_word_line(out, progress.at, word),
-            before: Before::Word(depth, word),
+        WordIn::Word(word) => {
+            let decoded = decode::decode(word);
+            let refused = progress.refused + totals::refused_one(decoded);
+            let at = lines::put_decoded_line(out, progress.at, labels::label_of(word), decoded);
+            Progress {
+                at,
+                before: Before::Word(depth, word),
+                words,
+                refused,
+            }
+        }
+        WordIn::Refused(_) => Progress {
+            at: progress.at,
+            before: Before::Nothing,
+            words,
+            refused: progress.refused,
         },
-        WordIn::Refused(_) => passed(progress),
     }
 }
 
@@ -68,6 +82,8 @@ fn put_figure(out: &mut [u8], progress: Progress, depth: u8, content: &[u8]) -> 
         FigureIn::Figure(label, millionths) => Progress {
             at: lines::put_figure_line(out, progress.at, previous, label, millionths),
             before: Before::Nothing,
+            words: progress.words,
+            refused: progress.refused,
         },
         FigureIn::Refused(_) => passed(progress),
     }
@@ -80,12 +96,14 @@ fn passed(progress: Progress) -> Progress
     Progress {
         at: progress.at,
         before: Before::Nothing,
+        words: progress.words,
+        refused: progress.refused,
     }
 }
 
 // A field of the sheet.
 fn put_field(out: &mut [u8], sheet: &[u8], progress: Progress, field: FieldAt) -> Progress
-    requires { ⌜ field .place + 3 + field .length ≤ length (now sheet) ⌝ }
+    requires { ⌜ (field .place + 3 + field .length ≤ length (now sheet)) × Countable progress ⌝ }
     ensures { λ r. ⌜ ListsField (now (sheet .entry)) (now (out .entry)) progress field (now (out .exit)) r ⌝ }
 {
     let from = field.place + 3;
@@ -100,14 +118,16 @@ fn put_field(out: &mut [u8], sheet: &[u8], progress: Progress, field: FieldAt) -
     }
 }
 
-// The lines of a sheet's fields, as far as they fit, and the place after them. A refused sheet has none.
-fn put_lines(out: &mut [u8], sheet: &[u8]) -> usize
-    ensures { λ r. ⌜ Writes (now (out .entry)) 0 (linesIn (sheetOf (now (sheet .entry)))) (now (out .exit)) r ⌝ }
+// The text of a sheet's listing, as far as it fits, and its length: a line for each word and figure, last the total; or the refusal.
+fn put_listing(out: &mut [u8], sheet: &[u8]) -> usize
+    ensures { λ r. ⌜ Writes (now (out .entry)) 0 (textOf (now (sheet .entry))) (now (out .exit)) r ⌝ }
 {
     let mut walk = walk::start(sheet);
     let mut progress = Progress {
         at: 0,
         before: Before::Nothing,
+        words: 0,
+        refused: 0,
     };
     loop {
         let step = walk::step(sheet, walk);
@@ -117,26 +137,13 @@ fn put_lines(out: &mut [u8], sheet: &[u8]) -> usize
                 progress = put_field(out, sheet, progress, field);
                 walk = step.next;
             }
-            Given::Refused(_, _) => {
-                return progress.at;
+            Given::Refused(refusal, place) => {
+                return lines::put_refusal_line(out, progress.at, refusal, place);
             }
             Given::End => {
-                return progress.at;
+                return lines::put_total_line(out, progress.at, progress.words, progress.refused);
             }
         }
-    }
-}
-
-// The text of a sheet's listing, as far as it fits, and its length.
-fn put_listing(out: &mut [u8], sheet: &[u8]) -> usize
-    ensures { λ r. ⌜ Writes (now (out .entry)) 0 (textOf (now (sheet .entry))) (now (out .exit)) r ⌝ }
-{
-    match totals::totals_of(sheet) {
-        Counted::Totals(totals) => {
-            let at = put_lines(out, sheet);
-            lines::put_total_line(out, at, totals.words, totals.refused)
-        }
-        Counted::Refused(refusal, place) => lines::put_refusal_line(out, 0, refusal, place),
     }
 }
 

@@ -115,7 +115,7 @@ heading-none label source =
     (none-both (octal3 label ++ ascii " ") (decimal source) (none-both (octal3 label) (ascii " ") (padded-none 8 3 label (lit< tt)) refl) (decimal-none source))
     refl
 
-word-one : (d : Decoded) (label : ℕ) → lineEnds (lines.lineOf d label) ≡ 1
+word-one : (d : Decoded) (label : ℕ) → lineEnds (lines.decodedLine d label) ≡ 1
 word-one (Decoded.Refused f) label =
     one-end (ascii "refused " ++ decimal (numberOf f)) (none-both (ascii "refused ") (decimal (numberOf f)) refl (decimal-none (numberOf f)))
 word-one (Decoded.Accepted r) label =

@@ -71,11 +71,11 @@ returns-2 c =
 
 returns-3 : tie.Need-returns-3
 returns-3 c =
-    passed-listed _ _ _ (c .before .before .before .before .before .before .before .args .field) FieldKind.Note _ (c .before .enum-told3 .given .1) (note-listed _ _ _ _ (c .passed .result) (c .passed .ensures) (omega arith) (omega arith))
+    passed-listed _ _ _ (c .before .before .before .before .before .before .before .args .field) FieldKind.Note _ (c .before .enum-told3 .given .1) (note-listed _ _ _ _ (omega arith) (omega arith) (c .passed .result) (c .passed .ensures))
 
 returns-4 : tie.Need-returns-4
 returns-4 c =
-    passed-listed _ _ _ (c .before .before .before .before .before .before .before .args .field) FieldKind.Group _ (c .before .enum-told4 .given .1) (group-listed _ _ _ _ (c .passed2 .result) (c .passed2 .ensures) (omega arith) (omega arith))
+    passed-listed _ _ _ (c .before .before .before .before .before .before .before .args .field) FieldKind.Group _ (c .before .enum-told4 .given .1) (group-listed _ _ _ _ (omega arith) (omega arith) (c .passed2 .result) (c .passed2 .ensures))
 
 pub put-field-spec : {M : Type 1} → statement M
 put-field-spec =

@@ -35,7 +35,7 @@ returns c =
 
 returns-2 : tie.Need-returns-2
 returns-2 c =
-    no-figure-listed _ (c .before .before .before .before .before .before .before .args .progress) _ _ (c .passed .result) (c .passed .ensures) (omega arith) (omega arith) (c .before .before .before .figure-in .result) _ (c .before .before .before .figure-in .ensures) (c .before .enum-told .given .1)
+    no-figure-listed _ (c .before .before .before .before .before .before .before .args .progress) _ _ (omega arith) (omega arith) (c .passed .result) (c .passed .ensures) (c .before .before .before .figure-in .result) _ (c .before .before .before .figure-in .ensures) (c .before .enum-told .given .1)
 
 pub put-figure-spec : {M : Type 1} → statement M
 put-figure-spec =

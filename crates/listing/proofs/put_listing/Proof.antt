@@ -1,53 +1,99 @@
--- The totals decide between the lines with their total and the refusal (specs/Loop.antt).
+-- Each turn writes a field's line and counts it; what is written and what is ahead stay the sheet's (specs/Loop.antt).
 -- Assumes nothing.
-use Rattle.listing.specs.Loop.{with-total, with-refusal}
+use native.Mathlib.Omega.{arith}
+use Rattle.walk.specs.Stands.{left}
+use Rattle.text.specs.Writing.{length-kept}
+use Rattle.totals.specs.Counting.{field-fits}
+use Rattle.listing.specs.Loop.{Going, going-from-start, going-on, with-total, with-refusal}
 use borrow.Author.Needs.{needs}
 use Rattle.listing.proofs.put_listing.Statement.{statement}
 use Rattle.listing.proofs.put_listing.Tie as tie
 
-totals-of-requires : tie.Need-totals-of-requires
-totals-of-requires c κs = search needs
+abbrev Inv-loop : tie.InvT-loop
+Inv-loop out₀ sheet walk₀ progress₀ out walk progress = Going sheet out₀ out walk progress
 
-enum-known-totals : tie.Need-enum-known-totals
-enum-known-totals c = search needs
+abbrev μ-loop : tie.MeasureT-loop
+μ-loop out₀ sheet walk₀ progress₀ out walk progress = left sheet walk
 
-put-lines-requires : tie.Need-put-lines-requires
-put-lines-requires c κs = search needs
+start-requires : tie.Need-start-requires Inv-loop μ-loop
+start-requires c κs = search needs
 
-put-total-line-requires : tie.Need-put-total-line-requires
-put-total-line-requires c κs = search needs
+loop-holds : tie.Need-loop-holds Inv-loop μ-loop
+loop-holds c = going-from-start (c .before .before .before .args .sheet .now) (c .before .before .before .args .out .now) (c .start .result) (omega arith) (c .start .ensures)
 
-enum-known-refusal : tie.Need-enum-known-refusal
-enum-known-refusal c = search needs
+step-requires : tie.Need-step-requires Inv-loop μ-loop
+step-requires c κs = search needs
 
-put-refusal-line-requires : tie.Need-put-refusal-line-requires
+enum-known-given : tie.Need-enum-known-given Inv-loop μ-loop
+enum-known-given c = search needs
+
+put-field-requires : tie.Need-put-field-requires Inv-loop μ-loop
+put-field-requires c κs =
+    let loop = c .before .before .before .before .before .loop in
+    let step = c .before .before .before .before .step in
+    let fits = field-fits (c .before .before .before .before .before .before .before .before .before .args .sheet .now) (loop .walk) _ _ (step .result) (loop .inv .counting) (step .ensures) (c .before .before .given .given .0 .0) (c .before .before .given .given .1) in
+    (fits .0, (omega (arith, fits .2), omega (arith, fits .3)))
+
+loop-less : tie.Need-loop-less Inv-loop μ-loop
+loop-less c =
+    let loop = c .before .before .before .before .before .before .before .before .loop in
+    let step = c .before .before .before .before .before .before .before .step in
+    field-fits (c .before .before .before .before .before .before .before .before .before .before .before .before .args .sheet .now) (loop .walk) _ _ (step .result) (loop .inv .counting) (step .ensures) (c .before .before .before .before .before .given .given .0 .0) (c .before .before .before .before .before .given .given .1) .1
+
+loop-again : tie.Need-loop-again Inv-loop μ-loop
+loop-again c =
+    let loop = c .before .before .before .before .before .before .before .before .loop in
+    let step = c .before .before .before .before .before .before .before .step in
+    going-on (c .before .before .before .before .before .before .before .before .before .before .before .before .args .sheet .now) _ _ (loop .walk) (loop .progress) (step .result) (loop .inv) (step .ensures) (c .before .before .before .before .before .given .given .0 .0) _ (c .before .before .put-field .result) (c .before .before .before .before .before .given .given .1) (c .before .before .put-field .ensures)
+
+enum-known-given-2 : tie.Need-enum-known-given-2 Inv-loop μ-loop
+enum-known-given-2 c = search needs
+
+put-refusal-line-requires : tie.Need-put-refusal-line-requires Inv-loop μ-loop
 put-refusal-line-requires c κs = search needs
 
-same-length : tie.Need-same-length
-same-length c = search needs
-
-returns : tie.Need-returns
+returns : tie.Need-returns Inv-loop μ-loop
 returns c =
-    with-total (c .before .before .before .before .before .before .before .before .before .before .before .before .before .before .args .sheet .now) _ (c .before .before .before .before .before .before .before .before .before .before .before .totals-of .result) (c .before .before .before .before .before .before .before .before .before .before .before .totals-of .ensures) (c .before .before .before .before .before .before .before .before .before .totals .given .0 .0) _ _ _ _ (c .before .before .before .before .before .before .before .before .before .totals .given .1) (c .before .before .before .before .before .before .put-lines .ensures) (c .before .before .put-total-line .ensures)
+    let loop = c .before .before .before .before .before .before .before .before .loop in
+    let step = c .before .before .before .before .before .before .before .step in
+    with-refusal (c .before .before .before .before .before .before .before .before .before .before .before .before .args .sheet .now) _ _ (loop .walk) (loop .progress) (step .result) (loop .inv) (step .ensures) (c .before .before .before .before .before .given2 .given .0 .0) (c .before .before .before .before .before .given2 .given .0 .1 .0) (c .before .before .before .before .before .given2 .given .1) _ _ (c .before .before .put-refusal-line .ensures)
 
-same-length-2 : tie.Need-same-length-2
-same-length-2 c = search needs
+same-length : tie.Need-same-length Inv-loop μ-loop
+same-length c = length-kept (returns c)
 
-returns-2 : tie.Need-returns-2
+enum-told : tie.Need-enum-told Inv-loop μ-loop
+enum-told c = search needs
+
+put-total-line-requires : tie.Need-put-total-line-requires Inv-loop μ-loop
+put-total-line-requires c κs = search needs
+
+returns-2 : tie.Need-returns-2 Inv-loop μ-loop
 returns-2 c =
-    with-refusal (c .before .before .before .before .before .before .before .before .before .before .args .sheet .now) _ (c .before .before .before .before .before .before .before .totals-of .result) (c .before .before .before .before .before .before .before .totals-of .ensures) (c .before .before .before .before .before .refusal .given .0 .0) (c .before .before .before .before .before .refusal .given .0 .1 .0) _ _ (c .before .before .before .before .before .refusal .given .1) (c .before .before .put-refusal-line .ensures)
+    let loop = c .before .before .before .before .before .before .before .loop in
+    let step = c .before .before .before .before .before .before .step in
+    with-total (c .before .before .before .before .before .before .before .before .before .before .before .args .sheet .now) _ _ (loop .walk) (loop .progress) (step .result) (loop .inv) (step .ensures) (c .before .before .before .before .enum-told .given .1) _ _ (c .before .before .put-total-line .ensures)
+
+same-length-2 : tie.Need-same-length-2 Inv-loop μ-loop
+same-length-2 c = length-kept (returns-2 c)
 
 pub put-listing-spec : {M : Type 1} → statement M
 put-listing-spec =
     tie.close
     (tie.spec
-    totals-of-requires
-    enum-known-totals
-    put-lines-requires
-    put-total-line-requires
-    enum-known-refusal
+    Inv-loop
+    μ-loop
+    start-requires
+    loop-holds
+    step-requires
+    enum-known-given
+    put-field-requires
+    loop-less
+    loop-again
+    enum-known-given-2
     put-refusal-line-requires
     same-length
     returns
+    enum-told
+    put-total-line-requires
     same-length-2
     returns-2)
