@@ -1,5 +1,5 @@
 # Two commands do all the set-up: `make demo` and `make test`. Both need the Rattle kit's `rt`; the tests also need a C and C++ compiler and cargo.
-.PHONY: demo test library programs test-c test-model test-rust test-install exhaustive bench install uninstall fmt
+.PHONY: demo test library programs test-c test-model test-rust test-install exhaustive bench install install-files uninstall fmt
 
 VERSION = 0.1.0
 PREFIX = /usr/local
@@ -48,6 +48,10 @@ bench: library
 
 # Puts the listing program, the header, the library, its pkg-config file and the manual pages below PREFIX, or below DESTDIR for a package of them.
 install: programs library
+	@$(MAKE) --no-print-directory install-files
+
+# The same of what is built already.
+install-files:
 	install -d "$(DESTDIR)$(PREFIX)/bin" "$(DESTDIR)$(PREFIX)/include" "$(DESTDIR)$(PREFIX)/lib/pkgconfig" \
 		"$(DESTDIR)$(PREFIX)/share/man/man1" "$(DESTDIR)$(PREFIX)/share/man/man3"
 	install -m 755 target/bin/list "$(DESTDIR)$(PREFIX)/bin/lampcygnet-list"
@@ -62,8 +66,8 @@ filled = sed -e 's|@PREFIX@|$(PREFIX)|' -e 's|@VERSION@|$(VERSION)|' $(1) > "$(D
 
 # Takes away the files that `install` puts there.
 uninstall:
-	cd "$(DESTDIR)$(PREFIX)" && rm -f bin/lampcygnet-list include/lampcygnet.h lib/liblampcygnet.a lib/pkgconfig/lampcygnet.pc \
-		share/man/man1/lampcygnet-list.1 share/man/man3/lampcygnet.3
+	for file in bin/lampcygnet-list include/lampcygnet.h lib/liblampcygnet.a lib/pkgconfig/lampcygnet.pc \
+		share/man/man1/lampcygnet-list.1 share/man/man3/lampcygnet.3; do rm -f "$(DESTDIR)$(PREFIX)/$$file"; done
 
 # Installs to a temporary folder, and uses what is there.
 test-install: programs library
