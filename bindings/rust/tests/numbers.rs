@@ -12,6 +12,7 @@ use model::reassembly::{self, Answer, Partial};
 use model::sheet::{self, FIGURE, GROUP, NOTE, WORD};
 use model::word::LABELS;
 use model::{Body, Record};
+use std::ptr;
 
 /// A byte, small ones far more often than chance.
 fn byte(random: &mut Random) -> u8 {
@@ -330,7 +331,23 @@ const NO_FIELD: ffi::Field = ffi::Field {
     length: 0,
 };
 
-/// From any numbers each field lies in the sheet, the walk goes forward and ends, and then gives the same again.
+/// A step that gives no field: the walk's own refusal, that of bytes which are no field, or the end.
+fn stops(walk: ffi::Walk, step: ffi::Walked) {
+    let (refusal, place) = (step.field.refusal, step.field.place);
+    match walk.refusal {
+        1..=15 => assert_eq!((refusal, place), (walk.refusal, walk.place)),
+        _ if refusal == 0 => assert_eq!(place, 0),
+        _ => assert!((9..=12).contains(&refusal) && place == walk.place, "{step:?}"),
+    }
+    let field = ffi::Field {
+        refusal,
+        place,
+        ..NO_FIELD
+    };
+    assert_eq!((step.field, step.next.place), (field, walk.place));
+}
+
+/// From any numbers each field lies in the sheet, the walk goes forward and stops, and then gives the same again.
 fn walk_on(sheets: &[Surrounded; 2], mut walk: ffi::Walk) {
     let length = sheets[0].length;
     for _ in 0..=length / 3 {
@@ -338,15 +355,7 @@ fn walk_on(sheets: &[Surrounded; 2], mut walk: ffi::Walk) {
         assert_eq!(step, sheets[1].step(walk), "bytes outside the sheet count");
         let field = step.field;
         if field.tag == 0 {
-            let expected = ffi::Field {
-                refusal: field.refusal,
-                place: field.place,
-                ..NO_FIELD
-            };
-            assert!(
-                field == expected && (field.refusal != 0 || field.place == 0),
-                "{field:?}"
-            );
+            stops(walk, step);
             assert_eq!(sheets[0].step(step.next), step, "the same again");
             return;
         }
@@ -434,6 +443,34 @@ fn refused_sheets() {
             ..NO_FIELD
         };
         assert_eq!(step, ffi::Walked { field, next: walk });
+    }
+}
+
+/// No bytes at a null pointer are the empty sheet, content, text and run; a buffer of none has no room.
+#[test]
+fn no_bytes_at_null() {
+    let (bytes, out) = (ptr::null::<u8>(), ptr::null_mut::<u8>());
+    // Each length beside a null pointer is 0.
+    unsafe {
+        assert_eq!(ffi::lampcygnet_check_sheet(bytes, 0).refusal, 0);
+        let walk = ffi::lampcygnet_walk_from_start(bytes, 0);
+        assert_eq!(
+            ffi::lampcygnet_next_field(bytes, 0, walk),
+            ffi::Walked {
+                field: NO_FIELD,
+                next: walk
+            }
+        );
+        assert_eq!(ffi::lampcygnet_find_note(bytes, 0, 0).refusal, 10);
+        assert_eq!(ffi::lampcygnet_word_in(bytes, 0).refusal, 11);
+        assert_eq!(ffi::lampcygnet_figure_in(bytes, 0).refusal, 11);
+        assert_eq!(ffi::lampcygnet_write_word(out, 0, 0, 0).refusal, 13);
+        assert_eq!(ffi::lampcygnet_list_sheet(bytes, 0, out, 0).refusal, 13);
+        let mut buffer = [0; 6];
+        let (start, room) = (buffer.as_mut_ptr(), buffer.len());
+        assert_eq!(ffi::lampcygnet_write_note(start, room, 0, bytes, 0).offset, 3);
+        assert_eq!(ffi::lampcygnet_write_group(start, room, 3, bytes, 0).offset, 6);
+        assert_eq!(buffer, [0x12, 0, 0, 0x20, 0, 0]);
     }
 }
 
