@@ -168,12 +168,12 @@ pub fn sheet(subject: &dyn Subject, bytes: &[u8]) -> Outcome {
 
 /// Where notes are asked for: everywhere in a short sheet; in a long one at some of its tags and beside them.
 fn places(bytes: &[u8]) -> Vec<usize> {
-    let mut places = vec![0, 1, bytes.len(), LIMIT, usize::MAX - 2, usize::MAX];
+    let mut places = vec![0, 1, bytes.len(), usize::MAX];
     if bytes.len() <= 40 {
         places.extend(0..bytes.len() + 2);
     } else if let Ok(fields) = sheet::check(bytes) {
-        let step = 1 + fields.len() / 4;
-        places.extend(fields.iter().step_by(step).flat_map(|field| [field.place, field.place + 3, field.content.end]));
+        let step = 1 + fields.len() / 3;
+        places.extend(fields.iter().step_by(step).flat_map(|field| [field.place, field.content.end]));
         places.extend(fields.iter().rev().find(|field| field.tag == sheet::NOTE).map(|field| field.place));
     }
     places

@@ -486,24 +486,24 @@ fn tag_places(bytes: &[u8]) -> Vec<usize> {
 
 /// A sheet of any sort: legal, damaged once or more, nested too deep, of any bytes, empty, at the limit or past it.
 pub fn any_sheet(random: &mut Random) -> Vec<u8> {
-    match random.below(64) {
+    match random.below(128) {
         0 => Vec::new(),
-        1 => {
+        1 | 2 => {
             let length = random.below(40) as usize;
             random.bytes(length)
         }
-        2 => exact_sheet(random, LIMIT),
-        3 => exact_sheet(random, LIMIT + 1),
-        4 => {
+        3 => exact_sheet(random, LIMIT),
+        4 => exact_sheet(random, LIMIT + 1),
+        5 => {
             let mut sheet = exact_sheet(random, LIMIT);
             damage(random, &mut sheet);
             sheet
         }
-        5..=8 => {
+        6..=15 => {
             let depth = random.below(7) as usize;
             nested_sheet(random, depth)
         }
-        9..=28 => {
+        16..=56 => {
             let size = random.below(300) as usize;
             legal_sheet(random, size)
         }
