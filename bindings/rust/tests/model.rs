@@ -59,10 +59,13 @@ fn figures_at_every_boundary() {
     }
 }
 
-/// Figures near the legal range, at boundaries, of every size, and at the ends of 64 bits.
+/// Figures near the legal range, at boundaries, of every size, and at the ends of 64 bits; 400,000 of them beside words too.
 #[test]
 fn random_figures() {
     let mut random = Random::from_environment("figures", 4);
+    for _ in 0..20_000 {
+        compare::random_figures(&Library, &mut random).unwrap();
+    }
     for _ in 0..2_500_000 {
         let (label, source, millionths) = generate::any_figure(&mut random);
         compare::figure(&Library, label, source, millionths).unwrap();
