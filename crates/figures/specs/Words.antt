@@ -113,7 +113,7 @@ ready-legal Glide c l = lt-ltb (mag c) 4096 (within 4095 c (l .0) (l .1))
 ready-legal MlsAzimuth c l = lt-ltb (mag c) 32768 (within 32767 c (l .0) (l .1))
 ready-legal MlsGlide c l = lt-ltb (mag c) 32768 (within 32767 c (l .0) (l .1))
 
-pub ready-encoded : (a : Assignment) (q : Quantity) (source : ℕ) (c : ℤ) → source ≤ 3 → Legal (scaleOf q) c
+ready-encoded : (a : Assignment) (q : Quantity) (source : ℕ) (c : ℤ) → source ≤ 3 → Legal (scaleOf q) c
     → encodeWith a (readyRecord q source c) ≡ Encoded.Word (wordOf a (readyRecord q source c))
 ready-encoded a q source c s l =
     all-legal a (readyRecord q source c)
