@@ -1,4 +1,5 @@
 // Lists the sheet that standard input holds, to standard output.
+use libc::STDERR_FILENO;
 use libc::STDIN_FILENO;
 use libc::STDOUT_FILENO;
 use listing::Listed;
@@ -24,5 +25,10 @@ fn main() {
     let mut text = [0u8; 131072];
     let read = io::read_full(STDIN_FILENO, &mut sheet);
     let length = list_whole(&sheet[..read], &mut text);
-    io::write_all(STDOUT_FILENO, &text[..length]);
+    if !io::write_all(STDOUT_FILENO, &text[..length]) {
+        io::write_all(
+            STDERR_FILENO,
+            b"lampcygnet-list: standard output cannot be written\n",
+        );
+    }
 }
