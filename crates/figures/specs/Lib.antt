@@ -1,8 +1,8 @@
 pub mod Coding
-pub mod Ready
 pub mod Agreement
 pub mod Demand
 pub mod Words
+pub mod Ready
 pub mod Agreeing
 pub mod Theorems
 pub mod Five

@@ -88,7 +88,7 @@ unknown a l h = go (a .kind l) refl
 
 -- ---- a legal count is one that the word's bits hold
 
-ready-kind : (q : Quantity) (c : ℤ) → kindOf (readyBody q c) ≡ kindFor q
+pub ready-kind : (q : Quantity) (c : ℤ) → kindOf (readyBody q c) ≡ kindFor q
 ready-kind Azimuth c = refl
 ready-kind Course c = refl
 ready-kind Glide c = refl
