@@ -8,7 +8,7 @@ use Rattle.bits.specs.Fields.{bits}
 use Rattle.bits.specs.Parity.{odd}
 use Rattle.records.specs.declared.Kind.{Kind}
 use Rattle.records.specs.declared.Kind.the-variants.{VorAzimuth, VorFrequency, IlsCourse, IlsGlide, IlsFrequency, MlsFrequency, MlsAzimuthDeviation, MlsGlideDeviation, SelectedAzimuth, GreatestGlideAngle, SelectedGlideAngle, Part1, Part2, Part3, Part4}
-use Rattle.records.specs.declared.Refusal.the-variants.{Parity, Label}
+use Rattle.refusals.specs.declared.Refusal.the-variants.{Parity, Label}
 use Rattle.labels.specs.Label.{labelOf}
 use Rattle.labels.specs.Assignment.{Assignment, document01}
 use Rattle.labels.specs.declared.Lookup.{Lookup}

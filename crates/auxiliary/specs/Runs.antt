@@ -8,7 +8,7 @@ use native.Mathlib.Omega.{arith}
 use lib.Count.{onesIn}
 use lib.Dec.{eqb}
 use Rattle.bits.specs.Fields.{bits}
-use Rattle.records.specs.declared.Refusal.{Refusal}
+use Rattle.refusals.specs.declared.Refusal.{Refusal}
 use Rattle.labels.specs.Assignment.{document01}
 use Rattle.labels.specs.Table.{rowOf}
 use Rattle.groups.specs.declared.Answer.{Answer}

@@ -3,8 +3,8 @@
 use Prim.Native.Nat.{ℕ}
 use mathlib.Core.Path.{_≡_, refl, sym, ap, _∙_}
 use native.Mathlib.Omega.{arith}
-use Rattle.records.specs.declared.Refusal.{Refusal}
-use Rattle.records.specs.declared.Refusal.the-variants.{Sequence}
+use Rattle.refusals.specs.declared.Refusal.{Refusal}
+use Rattle.refusals.specs.declared.Refusal.the-variants.{Sequence}
 use Rattle.groups.specs.declared.Answer.{Answer}
 use Rattle.groups.specs.declared.Part.{Part}
 use Rattle.groups.specs.declared.Reassembly.the-variants.{Empty}

@@ -7,7 +7,7 @@ use groups::Reassembly;
 use groups::Step;
 use labels::Lookup;
 use records::Kind;
-use records::Refusal;
+use refusals::Refusal;
 ghost use mathlib.Core.Path.{_≡_};
 ghost use Rattle.auxiliary.specs.Parts.{unlessRefused, partOfKind, partIn};
 ghost use Rattle.auxiliary.specs.Step.{new, answerOf, stepped, takeWord};

@@ -6,7 +6,7 @@ use Rattle.records.specs.Kinds.{kindOf}
 use Rattle.records.specs.declared.Body.{Body}
 use Rattle.records.specs.declared.Kind.{Kind}
 use Rattle.records.specs.declared.Record.{Record}
-use Rattle.records.specs.declared.Refusal.{Refusal}
+use Rattle.refusals.specs.declared.Refusal.{Refusal}
 use Rattle.labels.specs.Table.{labelNumber}
 use Rattle.readings.specs.Readings.{readingOf}
 use Rattle.readings.specs.declared.Reading.{Reading}

@@ -16,8 +16,8 @@ use Rattle.records.specs.declared.CourseCount.{CourseCount}
 use Rattle.records.specs.declared.GlideCount.{GlideCount}
 use Rattle.records.specs.declared.Kind.{Kind}
 use Rattle.records.specs.declared.Record.{Record}
-use Rattle.records.specs.declared.Refusal.{Refusal}
-use Rattle.records.specs.declared.Status.{Status}
+use Rattle.refusals.specs.declared.Refusal.{Refusal}
+use Rattle.codes.specs.declared.Status.{Status}
 use Rattle.labels.specs.Table.{labelNumber, findKind, rows, found}
 use Rattle.labels.specs.declared.Lookup.{Lookup}
 use Rattle.doubles.specs.Doubles.{courseOf, glideOf}

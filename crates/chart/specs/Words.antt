@@ -16,12 +16,12 @@ use Rattle.bits.specs.Complement.{signed, signed-holds}
 use Rattle.bits.specs.Layout.{clear}
 use Rattle.bits.specs.Parity.{odd}
 use Rattle.records.specs.Layouts.{wordLayout}
-use Rattle.records.specs.Codes.{binaryStatus}
+use Rattle.codes.specs.Codes.{binaryStatus}
 use Rattle.records.specs.Kinds.{kindOf}
 use Rattle.records.specs.declared.Body.{Body}
 use Rattle.records.specs.declared.Kind.{Kind}
 use Rattle.records.specs.declared.Record.{Record}
-use Rattle.records.specs.declared.Refusal.{Refusal}
+use Rattle.refusals.specs.declared.Refusal.{Refusal}
 use Rattle.labels.specs.Label.{labelOf}
 use Rattle.labels.specs.Table.{labelNumber, kinds, rows, findKind, only}
 use Rattle.labels.specs.declared.Lookup.{Lookup}

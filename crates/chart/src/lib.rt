@@ -5,7 +5,7 @@ use readings::Shown;
 use records::Body;
 use records::Kind;
 use records::Record;
-use records::Refusal;
+use refusals::Refusal;
 ghost use mathlib.Core.Path.{_≡_};
 ghost use lib.Dec.{eqb};
 ghost use Rattle.chart.specs.Chart.{isKind, differenceIn, differenceOf, joined, areCourseAndGlide, chartOf};

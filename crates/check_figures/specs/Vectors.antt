@@ -3,7 +3,7 @@
 use mathlib.Core.Bool.{Bool, _&&_}
 use lib.Dec.{eqb}
 use lib.IntN.{ℤ}
-use Rattle.records.specs.Numbers.{numberOf}
+use Rattle.refusals.specs.Numbers.{numberOf}
 use Rattle.encode.specs.declared.Encoded.{Encoded}
 use Rattle.figures.specs.Coding.{codedOf}
 use Rattle.figures.specs.Agreement.{agreesOf}

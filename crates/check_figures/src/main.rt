@@ -46,7 +46,7 @@ fn is_right(expected: Expected) -> bool
             (answer.refusal == 0)
                 & ((word as u64 == answer.word) & figures::agrees(word, millionths))
         }
-        Encoded::Refused(refusal) => records::number(refusal) as u64 == answer.refusal,
+        Encoded::Refused(refusal) => refusals::number(refusal) as u64 == answer.refusal,
     }
 }
 

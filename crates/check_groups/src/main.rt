@@ -96,7 +96,7 @@ fn says(line: &[u8], answer: WordAnswer, part: u64) -> bool {
         }
         WordAnswer::Complete(group) => says_joined(line, group.bits, group.mark),
         WordAnswer::Refused(refusal) => {
-            let number = records::number(refusal);
+            let number = refusals::number(refusal);
             (byte_at(line, 9) == b'r') & is_number(line, 17, line.len(), number as u64)
         }
     }

@@ -36,7 +36,7 @@ fn refusal_of(word: u32) -> u32
 {
     match decode::decode(word) {
         Decoded::Accepted(_) => 0,
-        Decoded::Refused(refusal) => records::number(refusal) as u32,
+        Decoded::Refused(refusal) => refusals::number(refusal) as u32,
     }
 }
 

@@ -6,7 +6,7 @@ use mir.Syntax.{w64}
 use mir.Val.{SFits, toZ, ofZ}
 use mir.Facts.{toZ-ofZ}
 use Rattle.records.specs.declared.Body.{Body}
-use Rattle.records.specs.declared.Status.{Status}
+use Rattle.codes.specs.declared.Status.{Status}
 use Rattle.columns.specs.Columns.{signedFigure, statusColumns, columnsOf}
 use Rattle.columns.specs.declared.Figure.{Figure}
 use Rattle.columns.specs.declared.Columns.{Columns}

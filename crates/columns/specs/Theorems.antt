@@ -6,7 +6,7 @@ use mathlib.Core.Logic.{_⊎_, inl, inr, _↔_}
 use Prim.Native.Nat.{ℕ}
 use native.Mathlib.Omega.{arith}
 use Rattle.records.specs.declared.Body.{Body}
-use Rattle.records.specs.declared.Status.{Status}
+use Rattle.codes.specs.declared.Status.{Status}
 use Rattle.columns.specs.Columns.{statusColumns, partColumns, columnsOf}
 use Rattle.columns.specs.declared.Mark.{Mark}
 use Rattle.columns.specs.declared.Figure.{Figure}

@@ -1,6 +1,6 @@
 // What a line of the listing shows of a record: its status or part, and its figure.
+use codes::Status;
 use records::Body;
-use records::Status;
 ghost use mathlib.Core.Path.{_≡_};
 ghost use Prim.Native.Nat.{_+_, _*_};
 ghost use Rattle.columns.specs.Columns.{wholeFigure, signedFigure, figureUnder, statusColumns, partColumns, columnsOf};
@@ -91,7 +91,7 @@ pub fn columns_of(body: Body) -> Columns
             status,
             marker: _,
             count,
-        } => status_columns(status, signed_figure(figures::azimuth_millionths(count))),
+        } => status_columns(status, signed_figure(printing::azimuth_millionths(count))),
         Body::VorFrequency { status, frequency } => status_columns(
             status,
             whole_figure(2, frequency as u64),
@@ -100,12 +100,12 @@ pub fn columns_of(body: Body) -> Columns
             status,
             inhibit: _,
             count,
-        } => status_columns(status, signed_figure(figures::course_millionths(count))),
+        } => status_columns(status, signed_figure(printing::course_millionths(count))),
         Body::IlsGlide {
             status,
             inhibit: _,
             count,
-        } => status_columns(status, signed_figure(figures::glide_millionths(count))),
+        } => status_columns(status, signed_figure(printing::glide_millionths(count))),
         Body::IlsFrequency {
             status,
             category: _,
@@ -120,13 +120,13 @@ pub fn columns_of(body: Body) -> Columns
             inhibit: _,
             clearance: _,
             count,
-        } => status_columns(status, signed_figure(figures::mls_millionths(count))),
+        } => status_columns(status, signed_figure(printing::mls_millionths(count))),
         Body::MlsGlideDeviation {
             status,
             inhibit: _,
             clearance: _,
             count,
-        } => status_columns(status, signed_figure(figures::mls_millionths(count))),
+        } => status_columns(status, signed_figure(printing::mls_millionths(count))),
         Body::SelectedAzimuth {
             status,
             manual: _,

@@ -1,5 +1,5 @@
 // What stands in a word field and in a figure field of a sheet: numbers, high byte first.
-use records::Refusal;
+use refusals::Refusal;
 ghost use mathlib.Core.Path.{_≡_};
 ghost use Prim.Native.Nat.{_+_, _*_, _^_};
 ghost use mathlib.Core.List.{[], _∷_};

@@ -1,20 +1,20 @@
 // A word to its record, or to its refusal.
+use codes::Status;
+use frequencies::Band;
 use labels::Lookup;
 use records::AzimuthCount;
-use records::Band;
 use records::Body;
 use records::CourseCount;
 use records::GlideCount;
 use records::Kind;
 use records::MlsCount;
 use records::Record;
-use records::Refusal;
-use records::Status;
+use refusals::Refusal;
 ghost use mathlib.Core.Path.{_≡_};
 ghost use mathlib.Core.Bool.{cond};
 ghost use lib.Dec.{eqb};
 ghost use Rattle.bits.specs.Fields.{bits};
-ghost use Rattle.records.specs.Codes.{binaryStatus, decimalStatus};
+ghost use Rattle.codes.specs.Codes.{binaryStatus, decimalStatus};
 ghost use Rattle.decode.specs.Rules.{frequencyIn, decimal};
 ghost use Rattle.decode.specs.Decode.{verdict, judged, decodeKind, decodeOf};
 ghost use Rattle.decode.specs.Kinds.{decodeClear};
@@ -45,10 +45,10 @@ fn kept_if(test: bool, refusal: Refusal) -> Verdict
 fn frequency_in(band: Band, word: u32) -> u32
     ensures { λ r. ⌜ r ≡ frequencyIn band word ⌝ }
 {
-    let tens = records::tens_of(band, word / 67108864 % 8);
+    let tens = frequencies::tens_of(band, word / 67108864 % 8);
     let megahertz = tens * 10 + word / 4194304 % 16;
     let digits = (megahertz * 10 + word / 262144 % 16) * 10 + word / 16384 % 16;
-    records::offset_of(band) + digits
+    frequencies::offset_of(band) + digits
 }
 
 // The rules of a frequency word.
@@ -60,12 +60,12 @@ fn frequency_verdict(band: Band, word: u32) -> Verdict
     if !digits {
         return Verdict::Broken(Refusal::Digit);
     }
-    let codes = (word / 536870912 % 4 < 3) & records::is_tens(band, word / 67108864 % 8);
+    let codes = (word / 536870912 % 4 < 3) & frequencies::is_tens(band, word / 67108864 % 8);
     if !codes {
         return Verdict::Broken(Refusal::Code);
     }
     kept_if(
-        records::is_legal_frequency(band, frequency_in(band, word)),
+        frequencies::is_legal_frequency(band, frequency_in(band, word)),
         Refusal::Value,
     )
 }
@@ -81,14 +81,14 @@ fn part_verdict(code: u32, word: u32) -> Verdict
 fn status_in(word: u32) -> Status
     ensures { λ r. ⌜ r ≡ binaryStatus (bits 30 31 word) ⌝ }
 {
-    records::binary_status(word / 536870912 % 4)
+    codes::binary_status(word / 536870912 % 4)
 }
 
 // The status of a decimal word, in bits 30 and 31.
 fn decimal_status_in(word: u32) -> Status
     ensures { λ r. ⌜ r ≡ decimalStatus (bits 30 31 word) ⌝ }
 {
-    records::decimal_status(word / 536870912 % 4)
+    codes::decimal_status(word / 536870912 % 4)
 }
 
 // The flags in bits 11, 12 and 19.
@@ -150,11 +150,11 @@ fn vor_azimuth(word: u32) -> Decoded
 {
     let code = word / 1024 % 8;
     judged(
-        kept_if(records::is_marker(code), Refusal::Code),
+        kept_if(codes::is_marker(code), Refusal::Code),
         word,
         Body::VorAzimuth {
             status: status_in(word),
-            marker: records::marker_of(code),
+            marker: codes::marker_of(code),
             count: AzimuthCount(bits::signed_17_29(word)),
         },
     )
@@ -209,7 +209,7 @@ fn ils_frequency(word: u32) -> Decoded
         word,
         Body::IlsFrequency {
             status: decimal_status_in(word),
-            category: records::category_of(word / 1024 % 4),
+            category: codes::category_of(word / 1024 % 4),
             frequency: frequency_in(Band::Ils, word),
         },
     )

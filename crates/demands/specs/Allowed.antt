@@ -6,11 +6,11 @@ use Prim.Native.Nat.{ℕ, _+_, _*_, _%_, _≤_}
 use lib.Count.{ones}
 use Rattle.bits.specs.Fields.{bits}
 use Rattle.bits.specs.Layout.{Clear}
-use Rattle.records.specs.Codes.{markerCode}
+use Rattle.codes.specs.Codes.{markerCode}
 use Rattle.records.specs.Layouts.{wordLayout}
-use Rattle.records.specs.declared.Band.{Band}
+use Rattle.frequencies.specs.declared.Band.{Band}
 use Rattle.records.specs.declared.Kind.{Kind}
-use Rattle.records.specs.declared.Marker.{Marker}
+use Rattle.codes.specs.declared.Marker.{Marker}
 use Rattle.labels.specs.Label.{labelOf}
 use Rattle.labels.specs.Assignment.{Assignment}
 use Rattle.decode.specs.Rules.{frequencyIn}

@@ -14,10 +14,10 @@ use lib.ListN.{length, drop}
 use Rattle.bits.specs.Layout.{clear}
 use Rattle.bits.specs.Parity.{odd}
 use Rattle.records.specs.Layouts.{wordLayout}
-use Rattle.records.specs.Numbers.{numberOf}
+use Rattle.refusals.specs.Numbers.{numberOf}
 use Rattle.records.specs.declared.Kind.{Kind}
 use Rattle.records.specs.declared.Record.{Record}
-use Rattle.records.specs.declared.Refusal.{Refusal}
+use Rattle.refusals.specs.declared.Refusal.{Refusal}
 use Rattle.labels.specs.Label.{labelOf}
 use Rattle.labels.specs.Assignment.{Assignment, document01}
 use Rattle.labels.specs.declared.Lookup.{Lookup}

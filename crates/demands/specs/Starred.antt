@@ -7,11 +7,11 @@ use Prim.Native.Nat.{ℕ}
 use lib.Count.{onesIn}
 use lib.IntN.{ℤ, pos, negℤ}
 use Rattle.rounding.specs.Rounding.{roundEven}
-use Rattle.records.specs.Numbers.{numberOf}
+use Rattle.refusals.specs.Numbers.{numberOf}
 use Rattle.records.specs.declared.Body.{Body}
-use Rattle.records.specs.declared.Marker.{Marker}
+use Rattle.codes.specs.declared.Marker.{Marker}
 use Rattle.records.specs.declared.Record.{Record}
-use Rattle.records.specs.declared.Status.{Status}
+use Rattle.codes.specs.declared.Status.{Status}
 use Rattle.labels.specs.Assignment.{document01}
 use Rattle.labels.specs.Table.{rowOf}
 use Rattle.decode.specs.Decode.{decodeOf}

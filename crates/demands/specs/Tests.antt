@@ -13,11 +13,11 @@ use lib.Pow.{pow-pos}
 use Rattle.bits.specs.Fields.{bits, digits}
 use Rattle.bits.specs.Laws.{both-true}
 use Rattle.bits.specs.Parity.{odd, ones-in}
-use Rattle.records.specs.Codes.{markerOf, markerCode, markerListed, marker-code, decimalListed}
-use Rattle.records.specs.Frequencies.{legalFrequency, tensListed, tens-le, mls-range}
-use Rattle.records.specs.declared.Band.{Band}
+use Rattle.codes.specs.Codes.{markerOf, markerCode, markerListed, marker-code, decimalListed}
+use Rattle.frequencies.specs.Frequencies.{legalFrequency, tensListed, tens-le, mls-range}
+use Rattle.frequencies.specs.declared.Band.{Band}
 use Rattle.records.specs.declared.Kind.{Kind}
-use Rattle.records.specs.declared.Marker.{Marker}
+use Rattle.codes.specs.declared.Marker.{Marker}
 use Rattle.decode.specs.Rules.{Rules, rules, frequencyIn}
 use Rattle.roundtrip.specs.Forth.{marker-listed}
 use Rattle.demands.specs.Allowed.{DecimalDigits, asks}

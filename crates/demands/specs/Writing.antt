@@ -10,11 +10,11 @@ use lib.Dec.{T, leb, ltb, le→leb, leb→le}
 use lib.IntN.{ℤ, pos, negsuc}
 use lib.Signed.{mag, leZ, _≤ℤ_}
 use Rattle.bits.specs.Laws.{both-true}
-use Rattle.records.specs.Codes.{decimalCode, decimalListed}
+use Rattle.codes.specs.Codes.{decimalCode, decimalListed}
 use Rattle.records.specs.declared.Body.{Body}
 use Rattle.records.specs.declared.Record.{Record}
-use Rattle.records.specs.declared.Status.{Status}
-use Rattle.records.specs.declared.Status.the-variants.{Failure, NoData, Test, Ready}
+use Rattle.codes.specs.declared.Status.{Status}
+use Rattle.codes.specs.declared.Status.the-variants.{Failure, NoData, Test, Ready}
 use Rattle.encode.specs.Encode.{codesListed, valuesLegal}
 use Rattle.demands.specs.Legal.{CodesOf, ValuesOf, Vhf, LegalCodes}
 use Rattle.demands.specs.Tests.{always, at-most-test, mls-value}

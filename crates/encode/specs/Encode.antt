@@ -9,14 +9,14 @@ use lib.IntN.{ℤ}
 use lib.Signed.{mag}
 use Rattle.bits.specs.Layout.{join}
 use Rattle.bits.specs.Parity.{withParity}
-use Rattle.records.specs.Codes.{decimalCode, decimalListed}
-use Rattle.records.specs.Frequencies.{legalFrequency}
+use Rattle.codes.specs.Codes.{decimalCode, decimalListed}
+use Rattle.frequencies.specs.Frequencies.{legalFrequency}
 use Rattle.records.specs.Kinds.{kindOf}
 use Rattle.records.specs.Layouts.{upperLayout, lowerLayout}
-use Rattle.records.specs.declared.Band.{Band}
+use Rattle.frequencies.specs.declared.Band.{Band}
 use Rattle.records.specs.declared.Body.{Body}
 use Rattle.records.specs.declared.Record.{Record}
-use Rattle.records.specs.declared.Refusal.{Refusal}
+use Rattle.refusals.specs.declared.Refusal.{Refusal}
 use Rattle.labels.specs.Label.{labelOf}
 use Rattle.labels.specs.Assignment.{Assignment, document01}
 use Rattle.encode.specs.Fields.{fieldsOf, statusBits}

@@ -4,9 +4,9 @@ use mathlib.Core.List.{List, [], _∷_}
 use Prim.Native.Nat.{ℕ, _/_, _%_}
 use Rattle.bits.specs.Complement.{complement}
 use Rattle.bits.specs.Parity.{withParity}
-use Rattle.records.specs.Codes.{binaryCode, decimalCode, markerCode, categoryCode, flagBit}
-use Rattle.records.specs.Frequencies.{tensCode}
-use Rattle.records.specs.declared.Band.{Band}
+use Rattle.codes.specs.Codes.{binaryCode, decimalCode, markerCode, categoryCode, flagBit}
+use Rattle.frequencies.specs.Frequencies.{tensCode}
+use Rattle.frequencies.specs.declared.Band.{Band}
 use Rattle.records.specs.declared.Body.{Body}
 
 -- hundredths, tenths and units of a MHz, and the code of the tens

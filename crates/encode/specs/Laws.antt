@@ -12,11 +12,11 @@ use Rattle.bits.specs.Layout.{Segment, field, Fit, join, size}
 use Rattle.bits.specs.Laws.{both-true, join-lt}
 use Rattle.bits.specs.Complement.{complement-lt}
 use Rattle.bits.specs.Parity.{withParity, parity-lt}
-use Rattle.records.specs.Codes.{binary-lt, decimal-lt, marker-lt, category-lt, flag-lt}
-use Rattle.records.specs.Frequencies.{legalFrequency, tensCode, tens-code-lt}
+use Rattle.codes.specs.Codes.{binary-lt, decimal-lt, marker-lt, category-lt, flag-lt}
+use Rattle.frequencies.specs.Frequencies.{legalFrequency, tensCode, tens-code-lt}
 use Rattle.records.specs.Kinds.{kindOf}
 use Rattle.records.specs.Layouts.{upperLayout}
-use Rattle.records.specs.declared.Band.{Band}
+use Rattle.frequencies.specs.declared.Band.{Band}
 use Rattle.records.specs.declared.Body.{Body}
 use Rattle.records.specs.declared.Kind.{Kind}
 use Rattle.records.specs.declared.Record.{Record}

@@ -1,15 +1,15 @@
 // A record to its word, or to its refusal.
-use records::Band;
+use codes::Status;
+use frequencies::Band;
 use records::Body;
 use records::Record;
-use records::Refusal;
-use records::Status;
+use refusals::Refusal;
 ghost use mathlib.Core.Path.{_≡_};
 ghost use mathlib.Core.Bool.{true};
 ghost use Prim.Native.Nat.{_+_, _*_, _<_, _/_, _%_};
 ghost use Rattle.bits.specs.Complement.{complement};
-ghost use Rattle.records.specs.Codes.{binaryCode, decimalCode, flagBit, decimalListed};
-ghost use Rattle.records.specs.Frequencies.{tensCode};
+ghost use Rattle.codes.specs.Codes.{binaryCode, decimalCode, flagBit, decimalListed};
+ghost use Rattle.frequencies.specs.Frequencies.{tensCode};
 ghost use Rattle.labels.specs.Assignment.{document01};
 ghost use Rattle.encode.specs.Encode.{codesListed, narrow, wide, valuesLegal, upperBits, wordOf, encodeOf};
 
@@ -37,7 +37,7 @@ fn is_wide(count: i16) -> bool
 fn is_decimal(status: Status) -> bool
     ensures { λ r. ⌜ r ≡ decimalListed (decimalCode status) ⌝ }
 {
-    records::decimal_code(status) < 3
+    codes::decimal_code(status) < 3
 }
 
 // Whether every code of a body is in its list.
@@ -125,7 +125,7 @@ fn values_legal(body: Body) -> bool
         Body::VorFrequency {
             status: _,
             frequency,
-        } => records::is_legal_frequency(Band::Vor, frequency),
+        } => frequencies::is_legal_frequency(Band::Vor, frequency),
         Body::IlsCourse {
             status: _,
             inhibit: _,
@@ -140,11 +140,11 @@ fn values_legal(body: Body) -> bool
             status: _,
             category: _,
             frequency,
-        } => records::is_legal_frequency(Band::Ils, frequency),
+        } => frequencies::is_legal_frequency(Band::Ils, frequency),
         Body::MlsFrequency {
             status: _,
             frequency,
-        } => records::is_legal_frequency(Band::Mls, frequency),
+        } => frequencies::is_legal_frequency(Band::Mls, frequency),
         Body::MlsAzimuthDeviation {
             status: _,
             inhibit: _,
@@ -186,15 +186,15 @@ fn upper_narrow(status: Status, first: u32, count: i16) -> u32
     requires { ⌜ first < 8 ⌝ }
     ensures { λ r. ⌜ r ≡ (binaryCode status * 8192 + complement 13 count) * 64 + first ⌝ }
 {
-    (records::binary_code(status) * 8192 + bits::complement_13(count)) * 64 + first
+    (codes::binary_code(status) * 8192 + bits::complement_13(count)) * 64 + first
 }
 
 // Bits 11 to 31 of a word with a count of 16 bits.
 fn upper_wide(status: Status, inhibit: bool, clearance: bool, count: i16) -> u32
     ensures { λ r. ⌜ r ≡ ((binaryCode status * 65536 + complement 16 count) * 4 + flagBit clearance) * 2 + flagBit inhibit ⌝ }
 {
-    let deviation = records::binary_code(status) * 65536 + bits::complement_16(count);
-    (deviation * 4 + records::flag_bit(clearance)) * 2 + records::flag_bit(inhibit)
+    let deviation = codes::binary_code(status) * 65536 + bits::complement_16(count);
+    (deviation * 4 + codes::flag_bit(clearance)) * 2 + codes::flag_bit(inhibit)
 }
 
 // Bits 11 to 31 of a decimal word.
@@ -202,7 +202,7 @@ fn upper_decimal(band: Band, status: Status, first: u32, frequency: u32) -> u32
     requires { ⌜ first < 4 ⌝ }
     ensures { λ r. ⌜ r ≡ ((((decimalCode status * 8 + tensCode band (frequency / 1000 % 10)) * 16 + frequency / 100 % 10) * 16 + frequency / 10 % 10) * 16 + frequency % 10) * 16 + first ⌝ }
 {
-    let tens = records::decimal_code(status) * 8 + records::tens_code(band, frequency / 1000 % 10);
+    let tens = codes::decimal_code(status) * 8 + frequencies::tens_code(band, frequency / 1000 % 10);
     let tenths = (tens * 16 + frequency / 100 % 10) * 16 + frequency / 10 % 10;
     (tenths * 16 + frequency % 10) * 16 + first
 }
@@ -212,7 +212,7 @@ fn upper_setting(status: Status, manual: bool, value: u32) -> u32
     requires { ⌜ value < 131072 ⌝ }
     ensures { λ r. ⌜ r ≡ ((binaryCode status * 1024 + value) * 2 + flagBit manual) * 256 ⌝ }
 {
-    ((records::binary_code(status) * 1024 + value) * 2 + records::flag_bit(manual)) * 256
+    ((codes::binary_code(status) * 1024 + value) * 2 + codes::flag_bit(manual)) * 256
 }
 
 // Bits 11 to 31 of a body's word.
@@ -224,18 +224,18 @@ fn upper_bits(body: Body) -> u32
             status,
             marker,
             count,
-        } => upper_narrow(status, records::marker_code(marker), count.0),
+        } => upper_narrow(status, codes::marker_code(marker), count.0),
         Body::VorFrequency { status, frequency } => upper_decimal(Band::Vor, status, 0, frequency),
         Body::IlsCourse {
             status,
             inhibit,
             count,
-        } => upper_narrow(status, records::flag_bit(inhibit), count.0),
+        } => upper_narrow(status, codes::flag_bit(inhibit), count.0),
         Body::IlsGlide {
             status,
             inhibit,
             count,
-        } => upper_narrow(status, records::flag_bit(inhibit), count.0),
+        } => upper_narrow(status, codes::flag_bit(inhibit), count.0),
         Body::IlsFrequency {
             status,
             category,
@@ -243,7 +243,7 @@ fn upper_bits(body: Body) -> u32
         } => upper_decimal(
             Band::Ils,
             status,
-            records::category_code(category),
+            codes::category_code(category),
             frequency,
         ),
         Body::MlsFrequency { status, frequency } => upper_decimal(Band::Mls, status, 0, frequency),
@@ -283,7 +283,7 @@ fn upper_bits(body: Body) -> u32
         Body::Part4 {
             parity_good,
             content,
-        } => (196608 + content as u32) * 8 + records::flag_bit(parity_good),
+        } => (196608 + content as u32) * 8 + codes::flag_bit(parity_good),
     }
 }
 

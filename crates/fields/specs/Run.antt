@@ -6,7 +6,7 @@ use mathlib.Core.List.{List, [], _∷_, _++_}
 use Prim.Native.Nat.{ℕ, zero, suc, _+_}
 use lib.Dec.{ltb}
 use lib.ListN.{length, take, drop}
-use Rattle.records.specs.declared.Refusal.{Refusal}
+use Rattle.refusals.specs.declared.Refusal.{Refusal}
 use Rattle.fields.specs.declared.FieldKind.{FieldKind}
 use Rattle.fields.specs.declared.Start.{Start}
 use Rattle.fields.specs.Start.{startOf}

@@ -1,5 +1,5 @@
 // The fields of a sheet: a tag of one byte, a length of two, high byte first, and the content.
-use records::Refusal;
+use refusals::Refusal;
 ghost use mathlib.Core.Path.{_≡_};
 ghost use lib.ListN.{drop};
 ghost use Rattle.fields.specs.Start.{kindOfTag, lengthAllowed, depthAllowed, judged, startOf};

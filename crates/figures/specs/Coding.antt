@@ -6,10 +6,10 @@ use lib.Dec.{leb}
 use lib.IntN.{ℤ}
 use Rattle.records.specs.declared.Body.{Body}
 use Rattle.records.specs.declared.Kind.{Kind}
-use Rattle.records.specs.declared.Marker.{Marker}
+use Rattle.codes.specs.declared.Marker.{Marker}
 use Rattle.records.specs.declared.Record.{Record}
-use Rattle.records.specs.declared.Refusal.{Refusal}
-use Rattle.records.specs.declared.Status.{Status}
+use Rattle.refusals.specs.declared.Refusal.{Refusal}
+use Rattle.codes.specs.declared.Status.{Status}
 use Rattle.labels.specs.Assignment.{Assignment, document01}
 use Rattle.labels.specs.declared.Lookup.{Lookup}
 use Rattle.encode.specs.Encode.{wordOf}

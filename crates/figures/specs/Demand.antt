@@ -10,7 +10,7 @@ use lib.Signed.{_≤ℤ_, _<ℤ_}
 use Rattle.bits.specs.Fields.{bits}
 use Rattle.bits.specs.Complement.{signed}
 use Rattle.rounding.specs.Rounding.{Even}
-use Rattle.records.specs.declared.Refusal.{Refusal}
+use Rattle.refusals.specs.declared.Refusal.{Refusal}
 use Rattle.labels.specs.Assignment.{Assignment}
 use Rattle.labels.specs.Label.{labelOf}
 use Rattle.decode.specs.Decode.{decodeWith}

@@ -13,7 +13,7 @@ use lib.Signed.{_≤ℤ_, mag}
 use Rattle.records.specs.Kinds.{kindOf}
 use Rattle.records.specs.declared.Kind.{Kind}
 use Rattle.records.specs.declared.Record.{Record}
-use Rattle.records.specs.declared.Refusal.{Refusal}
+use Rattle.refusals.specs.declared.Refusal.{Refusal}
 use Rattle.labels.specs.Assignment.{Assignment}
 use Rattle.labels.specs.Label.{labelOf}
 use Rattle.labels.specs.declared.Lookup.{Lookup}

@@ -1,20 +1,15 @@
-// Figures: a figure coded to a word, a count printed as a figure, and whether a figure agrees with a word.
+// Figures: a figure coded to a word, and whether a figure agrees with a word.
 use decode::Decoded;
 use encode::Encoded;
 use labels::Lookup;
 use quantities::Nearest;
 use quantities::Quantity;
-use records::AzimuthCount;
 use records::Body;
-use records::CourseCount;
-use records::GlideCount;
 use records::Kind;
-use records::MlsCount;
-use records::Refusal;
+use refusals::Refusal;
 ghost use mathlib.Core.Path.{_≡_};
 ghost use Prim.Native.Nat.{_≤_};
 ghost use Rattle.labels.specs.Assignment.{document01};
-ghost use Rattle.quantities.specs.Nearest.{millionthsOf};
 ghost use Rattle.encode.specs.Encode.{wordOf};
 ghost use Rattle.figures.specs.Coding.{quantityOf, kindFor, quantityAt, readyRecord, codedQuantity, codedOf};
 ghost use Rattle.figures.specs.Ready.{narrowBits, wideBits, readyBits};
@@ -153,34 +148,6 @@ pub fn code_figure(label: u64, source: u64, millionths: i64) -> Encoded
         Measured::As(quantity) => code_by_quantity(quantity, source, millionths),
         Measured::Nothing => Encoded::Refused(Refusal::Label),
     }
-}
-
-// An azimuth count as a figure, in millionths of a degree.
-pub fn azimuth_millionths(count: AzimuthCount) -> i64
-    ensures { λ r. ⌜ r ≡ millionthsOf Quantity.Azimuth (count .0) ⌝ }
-{
-    quantities::millionths(Quantity::Azimuth, count.0)
-}
-
-// A course count as a figure, in millionths of modulation depth difference.
-pub fn course_millionths(count: CourseCount) -> i64
-    ensures { λ r. ⌜ r ≡ millionthsOf Quantity.Course (count .0) ⌝ }
-{
-    quantities::millionths(Quantity::Course, count.0)
-}
-
-// A glide count as a figure, in millionths of modulation depth difference.
-pub fn glide_millionths(count: GlideCount) -> i64
-    ensures { λ r. ⌜ r ≡ millionthsOf Quantity.Glide (count .0) ⌝ }
-{
-    quantities::millionths(Quantity::Glide, count.0)
-}
-
-// A count of either MLS deviation as a figure, in millionths of a millivolt.
-pub fn mls_millionths(count: MlsCount) -> i64
-    ensures { λ r. ⌜ r ≡ millionthsOf Quantity.MlsAzimuth (count .0) ⌝ }
-{
-    quantities::millionths(Quantity::MlsAzimuth, count.0)
 }
 
 // The quantity and the count in a body.

@@ -5,7 +5,7 @@ use mathlib.Core.List.{List}
 use Prim.Native.Nat.{ℕ, _+_, _-_, _≤_}
 use native.Mathlib.Omega.{arith}
 use lib.ListN.{length, take, drop}
-use Rattle.records.specs.Numbers.{numberOf}
+use Rattle.refusals.specs.Numbers.{numberOf}
 use Rattle.fields.specs.Run.{sheetOf}
 use Rattle.walk.specs.Within.{drop-take}
 use Rattle.notes.specs.declared.NoteFound.{NoteFound}

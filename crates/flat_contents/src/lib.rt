@@ -35,7 +35,7 @@ fn flat_word_in(found: WordIn) -> FlatWord
             word: word,
         },
         WordIn::Refused(refusal) => FlatWord {
-            refusal: records::number(refusal),
+            refusal: refusals::number(refusal),
             word: 0,
         },
     }
@@ -52,7 +52,7 @@ fn flat_figure_in(found: FigureIn) -> FlatFigure
             millionths: millionths,
         },
         FigureIn::Refused(refusal) => FlatFigure {
-            refusal: records::number(refusal),
+            refusal: refusals::number(refusal),
             label: 0,
             millionths: 0,
         },
@@ -84,7 +84,7 @@ pub fn find_note_flat(sheet: &[u8], place: usize) -> FlatNote
             length: end - start,
         },
         NoteFound::Refused(refusal, offset) => FlatNote {
-            refusal: records::number(refusal),
+            refusal: refusals::number(refusal),
             start: offset,
             length: 0,
         },

@@ -6,12 +6,12 @@ use mathlib.Core.Bool.{Bool, true, false, cond, _&&_}
 use mathlib.Core.List.{List, [], _∷_}
 use Prim.Native.Nat.{ℕ, _+_, _%_}
 use lib.Dec.{eqb, leb}
-use Rattle.records.specs.Codes.{binaryStatus, markerOf, markerListed, categoryOf}
+use Rattle.codes.specs.Codes.{binaryStatus, markerOf, markerListed, categoryOf}
 use Rattle.records.specs.declared.Body.{Body}
 use Rattle.records.specs.declared.Kind.{Kind}
 use Rattle.records.specs.declared.Record.{Record}
-use Rattle.records.specs.declared.Refusal.{Refusal}
-use Rattle.records.specs.declared.Status.{Status}
+use Rattle.refusals.specs.declared.Refusal.{Refusal}
+use Rattle.codes.specs.declared.Status.{Status}
 use Rattle.labels.specs.Table.{kinds}
 use Rattle.labels.specs.declared.Lookup.{Lookup}
 use Rattle.decode.specs.declared.Decoded.{Decoded}

@@ -1,18 +1,18 @@
 // The record that numbers stand for.
+use codes::Category;
+use codes::Marker;
+use codes::Status;
 use decode::Decoded;
 use flat_records::FlatRecord;
 use labels::Lookup;
 use records::AzimuthCount;
 use records::Body;
-use records::Category;
 use records::CourseCount;
 use records::GlideCount;
 use records::Kind;
-use records::Marker;
 use records::MlsCount;
 use records::Record;
-use records::Refusal;
-use records::Status;
+use refusals::Refusal;
 ghost use mathlib.Core.Path.{_≡_};
 ghost use Rattle.flat_fields.specs.Fields.{kindAt, listed, most, fieldsOf, bodyFrom, recordOfKind, recordFrom};
 
@@ -69,7 +69,7 @@ fn codes_listed(kind: Kind, f: FlatRecord) -> bool
     let manual = f.manual <= 1;
     let good = f.parity_good <= 1;
     let category = f.category <= 3;
-    let marker = records::is_marker(f.marker as u32);
+    let marker = codes::is_marker(f.marker as u32);
     match kind {
         Kind::VorAzimuth => status & marker,
         Kind::VorFrequency => status,
@@ -118,9 +118,9 @@ fn fields_of(f: FlatRecord) -> Fields
 {
     let count = f.count;
     Fields {
-        status: records::binary_status((f.status as u32 + 3) % 4),
-        marker: records::marker_of(f.marker as u32),
-        category: records::category_of(f.category as u32),
+        status: codes::binary_status((f.status as u32 + 3) % 4),
+        marker: codes::marker_of(f.marker as u32),
+        category: codes::category_of(f.category as u32),
         azimuth: AzimuthCount(count),
         course: CourseCount(count),
         glide: GlideCount(count),

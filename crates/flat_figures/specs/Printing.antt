@@ -8,8 +8,8 @@ use borrow.Author.Tests.{ltb-true}
 use lib.Dec.{ltb, le→leb}
 use lib.IntN.{ℤ, pos, negsuc}
 use lib.Signed.{_≤ℤ_, mag, leZ-yes}
-use Rattle.records.specs.Numbers.{numberOf}
-use Rattle.records.specs.declared.Refusal.{Refusal}
+use Rattle.refusals.specs.Numbers.{numberOf}
+use Rattle.refusals.specs.declared.Refusal.{Refusal}
 use Rattle.labels.specs.Assignment.{document01}
 use Rattle.encode.specs.Encode.{narrow, wide}
 use Rattle.quantities.specs.Nearest.{millionthsOf}

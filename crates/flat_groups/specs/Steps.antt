@@ -3,8 +3,8 @@
 use mathlib.Core.Bool.{cond}
 use Prim.Native.Nat.{ℕ, _+_, _*_, _/_, _%_}
 use lib.Dec.{eqb}
-use Rattle.records.specs.Codes.{flagBit}
-use Rattle.records.specs.Numbers.{numberOf}
+use Rattle.codes.specs.Codes.{flagBit}
+use Rattle.refusals.specs.Numbers.{numberOf}
 use Rattle.groups.specs.declared.Reassembly.{Reassembly}
 use Rattle.auxiliary.specs.Step.{takeWord}
 use Rattle.auxiliary.specs.declared.Reassembler.{Reassembler}

@@ -104,7 +104,7 @@ fn answered(answer: WordAnswer) -> FlatAnswer
             bits: group.bits,
         },
         WordAnswer::Refused(refusal) => FlatAnswer {
-            refusal: records::number(refusal),
+            refusal: refusals::number(refusal),
             complete: 0,
             parity_good: 0,
             bits: 0,

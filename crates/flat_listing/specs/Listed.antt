@@ -6,7 +6,7 @@ use Prim.Native.Nat.{ℕ, _≤_}
 use native.Mathlib.Omega.{arith}
 use borrow.Author.Tests.{le-ltb}
 use lib.ListN.{length}
-use Rattle.records.specs.Numbers.{numberOf}
+use Rattle.refusals.specs.Numbers.{numberOf}
 use Rattle.listing.specs.declared.Listed.{Listed}
 use Rattle.listing.specs.Listing.{textOf, listedOf}
 use Rattle.listing.specs.Size.{text-short}

@@ -21,7 +21,7 @@ fn flat_listed(listed: Listed) -> FlatListed
             length: length,
         },
         Listed::Refused(refusal) => FlatListed {
-            refusal: records::number(refusal),
+            refusal: refusals::number(refusal),
             length: 0,
         },
     }

@@ -1,6 +1,6 @@
 -- The numbers of a check and of a writing.
 -- Assumes nothing.
-use Rattle.records.specs.Numbers.{numberOf}
+use Rattle.refusals.specs.Numbers.{numberOf}
 use Rattle.sheet.specs.declared.Checked.{Checked}
 use Rattle.writer.specs.declared.Written.{Written}
 use Rattle.flat_places.specs.declared.FlatPlace.{FlatPlace}

@@ -26,7 +26,7 @@ fn flat_checked(checked: Checked) -> FlatPlace
             offset: 0,
         },
         Checked::Refused(refusal, offset) => FlatPlace {
-            refusal: records::number(refusal),
+            refusal: refusals::number(refusal),
             offset: offset,
         },
     }
@@ -42,7 +42,7 @@ fn flat_written(written: Written) -> FlatPlace
             offset: end,
         },
         Written::Refused(refusal, place) => FlatPlace {
-            refusal: records::number(refusal),
+            refusal: refusals::number(refusal),
             offset: place,
         },
     }

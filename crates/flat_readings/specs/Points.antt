@@ -1,6 +1,6 @@
 -- The numbers of a chart point, or of its refusal.
 -- Assumes nothing.
-use Rattle.records.specs.Numbers.{numberOf}
+use Rattle.refusals.specs.Numbers.{numberOf}
 use Rattle.chart.specs.declared.Charted.{Charted}
 use Rattle.flat_readings.specs.Readings.{nought}
 use Rattle.flat_readings.specs.declared.FlatPoint.{FlatPoint}

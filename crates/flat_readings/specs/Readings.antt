@@ -6,8 +6,8 @@ use Prim.Native.Nat.{ℕ}
 use lib.Dec.{eqb}
 use lib.Ieee.{Float, binary64, ofBits}
 use lib.IntN.{ℤ, pos, natAbs}
-use Rattle.records.specs.Codes.{flagBit}
-use Rattle.records.specs.Numbers.{numberOf}
+use Rattle.codes.specs.Codes.{flagBit}
+use Rattle.refusals.specs.Numbers.{numberOf}
 use Rattle.decode.specs.Decode.{decodeOf}
 use Rattle.decode.specs.declared.Decoded.{Decoded}
 use Rattle.readings.specs.Readings.{readingOf}

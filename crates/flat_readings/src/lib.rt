@@ -138,7 +138,7 @@ pub fn reading_flat(word: u32) -> FlatReading
             let body = record.body;
             flat_shown(readings::reading_of(body))
         }
-        Decoded::Refused(refusal) => absent(records::number(refusal)),
+        Decoded::Refused(refusal) => absent(refusals::number(refusal)),
     }
 }
 
@@ -153,7 +153,7 @@ pub fn flat_point(charted: Charted) -> FlatPoint
             glide: point.glide,
         },
         Charted::Refused(refusal) => FlatPoint {
-            refusal: records::number(refusal),
+            refusal: refusals::number(refusal),
             course: 0.0,
             glide: 0.0,
         },

@@ -2,10 +2,10 @@
 -- Assumes nothing.
 use Prim.Native.Nat.{ℕ}
 use lib.IntN.{ℤ, pos}
-use Rattle.records.specs.Codes.{markerCode, categoryCode, flagBit}
-use Rattle.records.specs.Numbers.{numberOf}
+use Rattle.codes.specs.Codes.{markerCode, categoryCode, flagBit}
+use Rattle.refusals.specs.Numbers.{numberOf}
 use Rattle.records.specs.declared.Body.{Body}
-use Rattle.records.specs.declared.Status.{Status}
+use Rattle.codes.specs.declared.Status.{Status}
 use Rattle.decode.specs.declared.Decoded.{Decoded}
 use Rattle.flat_records.specs.declared.FlatRecord.{FlatRecord}
 

@@ -1,11 +1,11 @@
 // A record as numbers, for other languages.
+use codes::Category;
+use codes::Marker;
+use codes::Status;
 use decode::Decoded;
 use records::Body;
-use records::Category;
-use records::Marker;
-use records::Status;
 ghost use mathlib.Core.Path.{_≡_};
-ghost use Rattle.records.specs.Codes.{markerCode, categoryCode, flagBit};
+ghost use Rattle.codes.specs.Codes.{markerCode, categoryCode, flagBit};
 ghost use Rattle.decode.specs.Decode.{decodeOf};
 ghost use Rattle.flat_records.specs.Numbers.{statusNumber, measured, valued, part, refused, flatBody, flatOf};
 
@@ -283,7 +283,7 @@ pub fn flat_of(decoded: Decoded) -> FlatRecord
             let body = record.body;
             flat_body(source, body)
         }
-        Decoded::Refused(refusal) => refused(records::number(refusal)),
+        Decoded::Refused(refusal) => refused(refusals::number(refusal)),
     }
 }
 

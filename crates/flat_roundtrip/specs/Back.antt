@@ -8,8 +8,8 @@ use native.Mathlib.Omega.{arith}
 use borrow.Author.Tests.{le-leb, leb-true}
 use lib.Dec.{leb}
 use Rattle.bits.specs.Laws.{both-true}
-use Rattle.records.specs.Codes.{marker-of, category-of, flag-of}
-use Rattle.records.specs.Frequencies.{vhf-range, mls-range}
+use Rattle.codes.specs.Codes.{marker-of, category-of, flag-of}
+use Rattle.frequencies.specs.Frequencies.{vhf-range, mls-range}
 use Rattle.records.specs.Kinds.{kindOf}
 use Rattle.records.specs.declared.Body.{Body}
 use Rattle.records.specs.declared.Kind.{Kind}

@@ -8,11 +8,11 @@ use native.Mathlib.Omega.{arith}
 use borrow.Author.Tests.{eqb-true, leb-true}
 use lib.Dec.{eqb, leb}
 use Rattle.bits.specs.Laws.{both-true}
-use Rattle.records.specs.Codes.{markerCode, markerListed, categoryCode, categoryOf, category-code, flagBit, flag-bit}
-use Rattle.records.specs.declared.Category.{Category}
+use Rattle.codes.specs.Codes.{markerCode, markerListed, categoryCode, categoryOf, category-code, flagBit, flag-bit}
+use Rattle.codes.specs.declared.Category.{Category}
 use Rattle.records.specs.declared.Kind.{Kind}
-use Rattle.records.specs.declared.Marker.{Marker}
-use Rattle.records.specs.declared.Status.{Status}
+use Rattle.codes.specs.declared.Marker.{Marker}
+use Rattle.codes.specs.declared.Status.{Status}
 use Rattle.labels.specs.Table.{kinds}
 use Rattle.labels.specs.declared.Lookup.{Lookup}
 use Rattle.flat_records.specs.Numbers.{statusNumber}

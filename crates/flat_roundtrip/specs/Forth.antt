@@ -8,11 +8,11 @@ use native.Mathlib.Omega.{arith}
 use borrow.Author.Tests.{leb-true}
 use lib.Dec.{leb}
 use Rattle.bits.specs.Laws.{both-true}
-use Rattle.records.specs.Codes.{markerListed, marker-code}
+use Rattle.codes.specs.Codes.{markerListed, marker-code}
 use Rattle.records.specs.declared.Body.{Body}
 use Rattle.records.specs.declared.Kind.{Kind}
 use Rattle.records.specs.declared.Record.{Record}
-use Rattle.records.specs.declared.Refusal.{Refusal}
+use Rattle.refusals.specs.declared.Refusal.{Refusal}
 use Rattle.labels.specs.declared.Lookup.{Lookup}
 use Rattle.decode.specs.declared.Decoded.{Decoded}
 use Rattle.flat_records.specs.Numbers.{measured, valued, part, flatBody, flatOf}

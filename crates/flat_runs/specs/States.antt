@@ -9,7 +9,7 @@ use lib.Dec.{eqb, lit<}
 use Rattle.bits.specs.Fields.{bits}
 use Rattle.bits.specs.Parity.{odd}
 use Rattle.records.specs.declared.Kind.{Kind}
-use Rattle.records.specs.declared.Refusal.{Refusal}
+use Rattle.refusals.specs.declared.Refusal.{Refusal}
 use Rattle.labels.specs.Assignment.{document01}
 use Rattle.labels.specs.Label.{labelOf}
 use Rattle.labels.specs.declared.Lookup.{Lookup}

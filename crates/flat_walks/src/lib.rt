@@ -1,6 +1,6 @@
 // A walk over a sheet with its state and its fields as numbers.
 use fields::FieldKind;
-use records::Refusal;
+use refusals::Refusal;
 use walk::Given;
 use walk::Position;
 use walk::Walk;
@@ -66,7 +66,7 @@ fn flat_field(given: Given) -> FlatField
             }
         }
         Given::Refused(refusal, offset) => FlatField {
-            refusal: records::number(refusal),
+            refusal: refusals::number(refusal),
             tag: 0,
             depth: 0,
             place: offset,
@@ -95,7 +95,7 @@ fn flat_walk(walk: Walk) -> FlatWalk
             end3: position.end3,
         },
         Walk::Refused(refusal, offset) => FlatWalk {
-            refusal: records::number(refusal),
+            refusal: refusals::number(refusal),
             place: offset,
             end1: 0,
             end2: 0,

@@ -1,6 +1,6 @@
 -- The word of a record's numbers, or the number of its refusal.
 -- Assumes nothing.
-use Rattle.records.specs.Numbers.{numberOf}
+use Rattle.refusals.specs.Numbers.{numberOf}
 use Rattle.decode.specs.declared.Decoded.{Decoded}
 use Rattle.encode.specs.Encode.{encodeOf}
 use Rattle.encode.specs.declared.Encoded.{Encoded}

@@ -22,7 +22,7 @@ pub fn flat_word(encoded: Encoded) -> FlatWord
             word: word,
         },
         Encoded::Refused(refusal) => FlatWord {
-            refusal: records::number(refusal),
+            refusal: refusals::number(refusal),
             word: 0,
         },
     }

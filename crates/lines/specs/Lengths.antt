@@ -13,13 +13,13 @@ use Rattle.bits.specs.Fields.{bits}
 use Rattle.bits.specs.Complement.{signed, signed-holds}
 use Rattle.rounding.specs.Rounding.{roundEven}
 use Rattle.rounding.specs.Parts as parts
-use Rattle.records.specs.Frequencies.{frequencyOf, tens-le, offset-le}
-use Rattle.records.specs.Numbers.{numberOf}
-use Rattle.records.specs.declared.Band.{Band}
+use Rattle.frequencies.specs.Frequencies.{frequencyOf, tens-le, offset-le}
+use Rattle.refusals.specs.Numbers.{numberOf}
+use Rattle.frequencies.specs.declared.Band.{Band}
 use Rattle.records.specs.declared.Kind.{Kind}
 use Rattle.records.specs.declared.Record.{Record}
-use Rattle.records.specs.declared.Refusal.{Refusal}
-use Rattle.records.specs.declared.Status.{Status}
+use Rattle.refusals.specs.declared.Refusal.{Refusal}
+use Rattle.codes.specs.declared.Status.{Status}
 use Rattle.labels.specs.Assignment.{document01}
 use Rattle.labels.specs.Label.{labelOf}
 use Rattle.decode.specs.Rules.{frequencyIn, bodyOf}

@@ -1,10 +1,10 @@
 // The lines of the listing, into a buffer.
+use codes::Status;
 use columns::Columns;
 use columns::Figure;
 use columns::Mark;
 use decode::Decoded;
-use records::Refusal;
-use records::Status;
+use refusals::Refusal;
 use verdicts::Previous;
 use verdicts::Verdict;
 ghost use Rattle.text.specs.Writing.{Writes};
@@ -81,7 +81,7 @@ fn put_record_line(out: &mut [u8], at: usize, label: u32, source: u8, columns: C
 fn put_refused_line(out: &mut [u8], at: usize, refusal: Refusal) -> usize
     ensures { λ r. ⌜ Writes (now (out .entry)) at (refusedLine refusal) (now (out .exit)) r ⌝ }
 {
-    let end = text::put_named(out, at, b"refused ", records::number(refusal) as u64);
+    let end = text::put_named(out, at, b"refused ", refusals::number(refusal) as u64);
     text::put_byte(out, end, 10)
 }
 
@@ -136,7 +136,7 @@ pub fn put_total_line(out: &mut [u8], at: usize, words: u64, refused: u64) -> us
 pub fn put_refusal_line(out: &mut [u8], at: usize, refusal: Refusal, place: usize) -> usize
     ensures { λ r. ⌜ Writes (now (out .entry)) at (refusalLine refusal place) (now (out .exit)) r ⌝ }
 {
-    let middle = text::put_named(out, at, b"sheet refused ", records::number(refusal) as u64);
+    let middle = text::put_named(out, at, b"sheet refused ", refusals::number(refusal) as u64);
     let end = text::put_named(out, middle, b" at ", place as u64);
     text::put_byte(out, end, 10)
 }

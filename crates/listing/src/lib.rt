@@ -2,7 +2,7 @@
 use contents::FigureIn;
 use contents::WordIn;
 use fields::FieldKind;
-use records::Refusal;
+use refusals::Refusal;
 use verdicts::Previous;
 use walk::FieldAt;
 use walk::Given;

@@ -9,9 +9,9 @@ use borrow.Author.Tests.{ne-eqb}
 use lib.Dec.{eqb, lit<}
 use lib.IntN.{ℤ}
 use lib.ListN.{length}
-use Rattle.records.specs.Numbers.{numberOf}
-use Rattle.records.specs.declared.Refusal.{Refusal}
-use Rattle.records.specs.declared.Status.{Status}
+use Rattle.refusals.specs.Numbers.{numberOf}
+use Rattle.refusals.specs.declared.Refusal.{Refusal}
+use Rattle.codes.specs.declared.Status.{Status}
 use Rattle.fields.specs.declared.FieldKind.{FieldKind}
 use Rattle.fields.specs.Start.{lengthAllowed}
 use Rattle.fields.specs.Run.{Field, Fields, sheetOf}

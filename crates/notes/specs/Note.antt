@@ -7,7 +7,7 @@ use Prim.Native.Nat.{ℕ, _+_}
 use denote.Ref.{RefT, ptr, now}
 use lib.Dec.{eqb}
 use lib.ListN.{length, take, drop}
-use Rattle.records.specs.declared.Refusal.{Refusal}
+use Rattle.refusals.specs.declared.Refusal.{Refusal}
 use Rattle.fields.specs.declared.FieldKind.{FieldKind}
 use Rattle.fields.specs.Run.{Field, Scan, Fields, Refused}
 use Rattle.notes.specs.declared.NoteFound.{NoteFound}

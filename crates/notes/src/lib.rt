@@ -1,6 +1,6 @@
 // The note at a place of a sheet.
 use fields::FieldKind;
-use records::Refusal;
+use refusals::Refusal;
 use walk::FieldAt;
 use walk::Given;
 ghost use mathlib.Core.Path.{_≡_};

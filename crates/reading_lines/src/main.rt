@@ -95,7 +95,7 @@ fn print_word(word: u32) {
         }
         Decoded::Refused(refusal) => {
             io::write_all(STDOUT_FILENO, b"refused ");
-            io::print_decimal(STDOUT_FILENO, records::number(refusal) as u64);
+            io::print_decimal(STDOUT_FILENO, refusals::number(refusal) as u64);
         }
     }
     io::write_all(STDOUT_FILENO, b"\n");
@@ -114,7 +114,7 @@ fn print_point(first: u32, second: u32) {
         }
         Charted::Refused(refusal) => {
             io::write_all(STDOUT_FILENO, b"refused ");
-            io::print_decimal(STDOUT_FILENO, records::number(refusal) as u64);
+            io::print_decimal(STDOUT_FILENO, refusals::number(refusal) as u64);
         }
     }
     io::write_all(STDOUT_FILENO, b"\n");

@@ -7,9 +7,9 @@ use borrow.Author.Tests.{eqb-false}
 use lib.Dec.{eqb}
 use lib.IntN.{pos, _*ℤ_}
 use lib.Ieee.{Float}
-use Rattle.records.specs.Codes.{binaryCode}
+use Rattle.codes.specs.Codes.{binaryCode}
 use Rattle.records.specs.declared.Body.{Body}
-use Rattle.records.specs.declared.Status.{Status}
+use Rattle.codes.specs.declared.Status.{Status}
 use Rattle.doubles.specs.Exact.{IsExactly, IsCount}
 use Rattle.doubles.specs.Nearest.{IsNearest}
 use Rattle.doubles.specs.Doubles.{degreesOf, courseOf, glideOf, degrees-exact, course-nearest, glide-nearest}

@@ -2,7 +2,7 @@
 -- Assumes nothing.
 use lib.IntN.{ℤ, pos, _*ℤ_}
 use Rattle.records.specs.declared.Body.{Body}
-use Rattle.records.specs.declared.Status.{Status}
+use Rattle.codes.specs.declared.Status.{Status}
 use Rattle.doubles.specs.Doubles.{degreesOf, courseOf, glideOf}
 use Rattle.readings.specs.declared.Setting.{Setting}
 use Rattle.readings.specs.declared.Reading.{Reading}

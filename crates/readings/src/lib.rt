@@ -1,10 +1,10 @@
 // What a record reads: degrees, depth difference, nanovolts, a frequency or a setting.
+use codes::Status;
 use records::AzimuthCount;
 use records::Body;
 use records::CourseCount;
 use records::GlideCount;
 use records::MlsCount;
-use records::Status;
 ghost use mathlib.Core.Path.{_≡_};
 ghost use Rattle.readings.specs.Meaning.{Shows};
 ghost use Rattle.readings.specs.Readings.{azimuthReading, courseReading, glideReading, mlsReading, shownUnder, readingOf};

@@ -1,5 +1,2 @@
-pub mod Numbers
 pub mod Kinds
-pub mod Codes
-pub mod Frequencies
 pub mod Layouts

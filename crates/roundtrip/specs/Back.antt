@@ -15,11 +15,11 @@ use Rattle.bits.specs.Layout.{split}
 use Rattle.bits.specs.Laws.{both-true}
 use Rattle.bits.specs.Complement.{signed, complement, complement-signed, signed-holds}
 use Rattle.bits.specs.Parity.{withParity, parity-only}
-use Rattle.records.specs.Codes.{binaryCode, binaryStatus, flagBit, binary-code, decimalCode, decimalStatus, decimalListed, decimal-code, marker-code, category-code, flag-bit}
-use Rattle.records.specs.Frequencies.{tensListed}
+use Rattle.codes.specs.Codes.{binaryCode, binaryStatus, flagBit, binary-code, decimalCode, decimalStatus, decimalListed, decimal-code, marker-code, category-code, flag-bit}
+use Rattle.frequencies.specs.Frequencies.{tensListed}
 use Rattle.records.specs.Kinds.{kindOf}
 use Rattle.records.specs.Layouts.{layout}
-use Rattle.records.specs.declared.Band.{Band}
+use Rattle.frequencies.specs.declared.Band.{Band}
 use Rattle.records.specs.declared.Body.{Body}
 use Rattle.records.specs.declared.Kind.{Kind}
 use Rattle.decode.specs.Rules.{rules, decimal, frequencyIn, bodyOf}

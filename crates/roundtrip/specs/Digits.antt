@@ -9,9 +9,9 @@ use native.Mathlib.Omega.{arith}
 use borrow.Author.Tests.{ne-eqb, ltb-true, ltb-false}
 use lib.Dec.{ltb}
 use lib.Arith.{digits-div, digits-mod}
-use Rattle.records.specs.Frequencies.{mlsTens, tensOf, tensListed, tensCode, frequencyOf, legalFrequency, vhf-range, mls-range}
-use Rattle.records.specs.declared.Band.{Band}
-use Rattle.records.specs.declared.Band.the-variants.{Vor, Ils, Mls}
+use Rattle.frequencies.specs.Frequencies.{mlsTens, tensOf, tensListed, tensCode, frequencyOf, legalFrequency, vhf-range, mls-range}
+use Rattle.frequencies.specs.declared.Band.{Band}
+use Rattle.frequencies.specs.declared.Band.the-variants.{Vor, Ils, Mls}
 use Rattle.encode.specs.Fields.{decimalDigits}
 
 -- ---- the tens digit of a code, and back

@@ -16,16 +16,16 @@ use Rattle.bits.specs.Fields.{bits, digits}
 use Rattle.bits.specs.Layout.{split}
 use Rattle.bits.specs.Complement.{signed, complement, signed-complement}
 use Rattle.bits.specs.Parity.{odd, withParity, parityBit, parity-odd}
-use Rattle.records.specs.Codes.{binaryStatus, binaryCode, binary-status, decimalStatus, decimalCode, decimalListed, decimal-status, markerOf, markerCode, markerListed, marker-of, categoryOf, categoryCode, category-of, flagBit, flag-of}
-use Rattle.records.specs.Frequencies.{tensCode, tensListed, frequencyOf, legalFrequency}
+use Rattle.codes.specs.Codes.{binaryStatus, binaryCode, binary-status, decimalStatus, decimalCode, decimalListed, decimal-status, markerOf, markerCode, markerListed, marker-of, categoryOf, categoryCode, category-of, flagBit, flag-of}
+use Rattle.frequencies.specs.Frequencies.{tensCode, tensListed, frequencyOf, legalFrequency}
 use Rattle.records.specs.Kinds.{kindOf}
 use Rattle.records.specs.Layouts.{wordLayout}
-use Rattle.records.specs.declared.Band.{Band}
+use Rattle.frequencies.specs.declared.Band.{Band}
 use Rattle.records.specs.declared.Body.{Body}
 use Rattle.records.specs.declared.Kind.{Kind}
-use Rattle.records.specs.declared.Marker.{Marker}
-use Rattle.records.specs.declared.Marker.the-variants.{None, Outer, Middle, Inner}
-use Rattle.records.specs.declared.Status.{Status}
+use Rattle.codes.specs.declared.Marker.{Marker}
+use Rattle.codes.specs.declared.Marker.the-variants.{None, Outer, Middle, Inner}
+use Rattle.codes.specs.declared.Status.{Status}
 use Rattle.decode.specs.Rules.{Rules, rules, decimal, frequencyIn, bodyOf}
 use Rattle.encode.specs.Fields.{fieldsOf, statusBits}
 use Rattle.encode.specs.Encode.{codesListed, narrow, wide, valuesLegal}

@@ -18,7 +18,7 @@ use Rattle.records.specs.Layouts.{layout, upperLayout, lowerLayout, wordLayout,
 use Rattle.records.specs.declared.Body.{Body}
 use Rattle.records.specs.declared.Kind.{Kind}
 use Rattle.records.specs.declared.Record.{Record}
-use Rattle.records.specs.declared.Refusal.{Refusal}
+use Rattle.refusals.specs.declared.Refusal.{Refusal}
 use Rattle.labels.specs.Label.{labelOf, label-low, label-byte, label-twice, label-lt}
 use Rattle.labels.specs.Assignment.{Assignment}
 use Rattle.decode.specs.Rules.{rules, bodyOf}

@@ -1,7 +1,7 @@
 // Checking a sheet: whether it is legal, else its first refusal with the offset of the field's tag.
 use fields::FieldKind;
 use fields::Start;
-use records::Refusal;
+use refusals::Refusal;
 ghost use mathlib.Core.Path.{_≡_};
 ghost use Prim.Native.Nat.{_+_, _≤_, _<_};
 ghost use lib.ListN.{length};

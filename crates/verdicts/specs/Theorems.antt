@@ -11,8 +11,8 @@ use lib.IntN.{ℤ}
 use Rattle.bits.specs.Laws.{both-true}
 use Rattle.records.specs.declared.Body.{Body}
 use Rattle.records.specs.declared.Record.{Record}
-use Rattle.records.specs.declared.Refusal.{Refusal}
-use Rattle.records.specs.declared.Status.{Status}
+use Rattle.refusals.specs.declared.Refusal.{Refusal}
+use Rattle.codes.specs.declared.Status.{Status}
 use Rattle.labels.specs.Assignment.{document01}
 use Rattle.labels.specs.Label.{labelOf}
 use Rattle.decode.specs.Decode.{decodeOf}

@@ -1,7 +1,7 @@
 // Walking a sheet field by field, in the order of the tags, a group before its inside.
 use fields::FieldKind;
 use fields::Start;
-use records::Refusal;
+use refusals::Refusal;
 use sheet::Checked;
 ghost use mathlib.Core.Path.{_≡_};
 ghost use Prim.Native.Nat.{ℕ, _+_, _<_, min};

@@ -10,7 +10,7 @@ use borrow.Author.Tests.{le-ltb}
 use lib.Dec.{ltb}
 use lib.IntN.{ℤ}
 use lib.ListN.{length, take, length-append}
-use Rattle.records.specs.declared.Refusal.{Refusal}
+use Rattle.refusals.specs.declared.Refusal.{Refusal}
 use Rattle.fields.specs.declared.FieldKind.{FieldKind}
 use Rattle.fields.specs.Start.{lengthAllowed, depthAllowed}
 use Rattle.fields.specs.Run.{Field, Scan, Fields, Refused, _andThen_, inside, runOf, sheetLimit, sheetOf, insideOf}

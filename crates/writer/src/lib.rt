@@ -1,5 +1,5 @@
 // Writing one field of a sheet at a place of a buffer.
-use records::Refusal;
+use refusals::Refusal;
 use sheet::Checked;
 ghost use mathlib.Core.Path.{_≡_};
 ghost use mathlib.Core.List.{_++_};

@@ -5,7 +5,7 @@ use borrow.Author.Needs.{needs}
 use borrow.Author.Tests.{not-true, not-false}
 use lib.Dec.{eqb}
 use Rattle.records.specs.declared.Record.{Record}
-use Rattle.records.specs.declared.Refusal.{Refusal}
+use Rattle.refusals.specs.declared.Refusal.{Refusal}
 use Rattle.readings.specs.Readings.{readingOf}
 use Rattle.chart.specs.Chart.{differenceOf, joined, areCourseAndGlide, chartOf}
 use Rattle.chart.specs.Points.{point-right, refused-no-point}

@@ -2,7 +2,7 @@
 -- Assumes nothing.
 use mathlib.Core.Path.{ap, sym}
 use borrow.Author.Needs.{needs}
-use Rattle.records.specs.declared.Status.{Status}
+use Rattle.codes.specs.declared.Status.{Status}
 use Rattle.columns.specs.Columns.{figureUnder}
 use Rattle.columns.proofs.figure_under.Statement.{statement}
 use Rattle.columns.proofs.figure_under.Tie as tie

@@ -6,7 +6,7 @@ use mathlib.Core.List.{List}
 use Prim.Native.Nat.{ℕ}
 use borrow.Author.Tests.{ne-eqb, eq-eqb}
 use lib.ListN.{length}
-use Rattle.records.specs.declared.Refusal.{Refusal}
+use Rattle.refusals.specs.declared.Refusal.{Refusal}
 use Rattle.contents.specs.declared.WordIn.{WordIn}
 use Rattle.contents.specs.BigEndian.{valueOf}
 use Rattle.contents.proofs.Elements.{written-out}

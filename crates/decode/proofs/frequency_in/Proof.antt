@@ -3,7 +3,7 @@
 use Prim.Native.Nat.{_/_, _%_, _≤_}
 use native.Mathlib.Omega.{arith}
 use borrow.Author.Needs.{needs}
-use Rattle.records.specs.Frequencies.{tens-le, offset-le}
+use Rattle.frequencies.specs.Frequencies.{tens-le, offset-le}
 use Rattle.decode.proofs.frequency_in.Statement.{statement}
 use Rattle.decode.proofs.frequency_in.Tie as tie
 

@@ -5,9 +5,9 @@ use mathlib.Core.Path.{refl, sym, ap, _∙_}
 use mathlib.Core.Bool.{Bool, cond, _&&_}
 use borrow.Author.Needs.{needs}
 use Rattle.bits.specs.Fields.{bits}
-use Rattle.records.specs.Codes.{decimalListed}
-use Rattle.records.specs.Frequencies.{legalFrequency}
-use Rattle.records.specs.declared.Refusal.{Refusal}
+use Rattle.codes.specs.Codes.{decimalListed}
+use Rattle.frequencies.specs.Frequencies.{legalFrequency}
+use Rattle.refusals.specs.declared.Refusal.{Refusal}
 use Rattle.decode.specs.declared.Verdict.{Verdict}
 use Rattle.decode.specs.Rules.{decimal}
 use Rattle.decode.specs.Decode.{digits-broken, codes-broken, codes-kept}

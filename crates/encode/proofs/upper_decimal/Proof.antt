@@ -3,7 +3,7 @@
 use Prim.Native.Nat.{_/_, _%_, _≤_}
 use native.Mathlib.Omega.{arith}
 use borrow.Author.Needs.{needs}
-use Rattle.records.specs.Frequencies.{tens-code-le}
+use Rattle.frequencies.specs.Frequencies.{tens-code-le}
 use Rattle.encode.proofs.upper_decimal.Statement.{statement}
 use Rattle.encode.proofs.upper_decimal.Tie as tie
 

@@ -1,6 +1,6 @@
 -- Each arm's answer is the definition's at the status that the arm matched.
 use mathlib.Core.Path.{ap, sym}
-use Rattle.records.specs.declared.Status.{Status}
+use Rattle.codes.specs.declared.Status.{Status}
 use Rattle.readings.specs.Readings.{shownUnder}
 use borrow.Author.Needs.{needs}
 use Rattle.readings.proofs.shown_under.Statement.{statement}

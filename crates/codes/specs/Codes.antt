@@ -1,0 +1,176 @@
+-- The codes of statuses, markers and categories, and what each code means. The lowest bit of a field is its first in document 01's print:
+-- "10" in bits 30, 31 is the number 1.
+-- Assumes nothing.
+use mathlib.Core.Path.{_≡_, refl, sym}
+use mathlib.Core.Bool.{Bool, true, false, _||_}
+use Prim.Native.Nat.{ℕ, zero, suc, _<_}
+use native.Mathlib.Omega.{arith}
+use borrow.Author.Tests.{eqb-true, ne-eqb}
+use lib.Dec.{eqb, ltb, lit<}
+use Rattle.codes.specs.declared.Status.{Status}
+use Rattle.codes.specs.declared.Status.the-variants.{Failure, NoData, Test, Ready}
+use Rattle.codes.specs.declared.Marker.{Marker}
+use Rattle.codes.specs.declared.Marker.the-variants.{None, Outer, Middle, Inner}
+use Rattle.codes.specs.declared.Category.{Category}
+use Rattle.codes.specs.declared.Category.the-variants.{NotStated, I, II, III}
+
+-- ---- binary words, bits 30 and 31: 00 failure, 10 nodata, 01 test, 11 ready
+
+abbrev pub binaryCode : Status → ℕ
+binaryCode Failure = 0
+binaryCode NoData = 1
+binaryCode Test = 2
+binaryCode Ready = 3
+
+abbrev pub binaryStatus : ℕ → Status
+binaryStatus zero = Failure
+binaryStatus (suc zero) = NoData
+binaryStatus (suc (suc zero)) = Test
+binaryStatus (suc (suc (suc n))) = Ready
+
+-- ---- decimal words: 00 ready, 10 nodata, 01 test; 11, ready with a minus, no frequency can have, and failure has no code, so it stands at 11
+
+abbrev pub decimalCode : Status → ℕ
+decimalCode Failure = 3
+decimalCode NoData = 1
+decimalCode Test = 2
+decimalCode Ready = 0
+
+abbrev pub decimalStatus : ℕ → Status
+decimalStatus zero = Ready
+decimalStatus (suc zero) = NoData
+decimalStatus (suc (suc zero)) = Test
+decimalStatus (suc (suc (suc n))) = Failure
+
+abbrev pub decimalListed : ℕ → Bool
+decimalListed c = ltb c 3
+
+-- ---- markers, bits 11, 12, 13: 000 none, 100 outer, 010 middle, 001 inner; nothing else
+
+abbrev pub markerCode : Marker → ℕ
+markerCode None = 0
+markerCode Outer = 1
+markerCode Middle = 2
+markerCode Inner = 4
+
+abbrev pub markerOf : ℕ → Marker
+markerOf zero = None
+markerOf (suc zero) = Outer
+markerOf (suc (suc zero)) = Middle
+markerOf (suc (suc (suc n))) = Inner
+
+abbrev pub markerListed : ℕ → Bool
+markerListed c = eqb c 0 || (eqb c 1 || (eqb c 2 || eqb c 4))
+
+-- ---- categories, bits 11, 12: 00 not stated, 10 I, 01 II, 11 III
+
+abbrev pub categoryCode : Category → ℕ
+categoryCode NotStated = 0
+categoryCode I = 1
+categoryCode II = 2
+categoryCode III = 3
+
+abbrev pub categoryOf : ℕ → Category
+categoryOf zero = NotStated
+categoryOf (suc zero) = I
+categoryOf (suc (suc zero)) = II
+categoryOf (suc (suc (suc n))) = III
+
+-- ---- a flag is one bit
+
+abbrev pub flagBit : Bool → ℕ
+flagBit false = 0
+flagBit true = 1
+
+-- ---- each code means what it is the code of, and the other way round
+
+pub binary-code : (c : ℕ) → c < 4 → binaryCode (binaryStatus c) ≡ c
+binary-code zero h = refl
+binary-code (suc zero) h = refl
+binary-code (suc (suc zero)) h = refl
+binary-code (suc (suc (suc n))) h = omega arith
+
+pub binary-status : (s : Status) → binaryStatus (binaryCode s) ≡ s
+binary-status Failure = refl
+binary-status NoData = refl
+binary-status Test = refl
+binary-status Ready = refl
+
+pub decimal-code : (c : ℕ) → c < 4 → decimalCode (decimalStatus c) ≡ c
+decimal-code zero h = refl
+decimal-code (suc zero) h = refl
+decimal-code (suc (suc zero)) h = refl
+decimal-code (suc (suc (suc n))) h = omega arith
+
+pub decimal-status : (s : Status) → decimalStatus (decimalCode s) ≡ s
+decimal-status Failure = refl
+decimal-status NoData = refl
+decimal-status Test = refl
+decimal-status Ready = refl
+
+pub marker-code : (c : ℕ) → markerListed c ≡ true → markerCode (markerOf c) ≡ c
+marker-code zero h = refl
+marker-code (suc zero) h = refl
+marker-code (suc (suc zero)) h = refl
+marker-code (suc (suc (suc n))) h =
+    let x : ℕ = suc (suc (suc n)) in
+    let e : eqb x 4 ≡ true =
+    simp (ne-eqb x 0 (λ q. omega arith), ne-eqb x 1 (λ q. omega arith), ne-eqb x 2 (λ q. omega arith)) at h in
+    sym (eqb-true x 4 e)
+
+pub marker-of : (m : Marker) → markerOf (markerCode m) ≡ m
+marker-of None = refl
+marker-of Outer = refl
+marker-of Middle = refl
+marker-of Inner = refl
+
+pub category-code : (c : ℕ) → c < 4 → categoryCode (categoryOf c) ≡ c
+category-code zero h = refl
+category-code (suc zero) h = refl
+category-code (suc (suc zero)) h = refl
+category-code (suc (suc (suc n))) h = omega arith
+
+pub category-of : (k : Category) → categoryOf (categoryCode k) ≡ k
+category-of NotStated = refl
+category-of I = refl
+category-of II = refl
+category-of III = refl
+
+pub flag-bit : (b : ℕ) → b < 2 → flagBit (eqb b 1) ≡ b
+flag-bit zero h = refl
+flag-bit (suc zero) h = refl
+flag-bit (suc (suc n)) h = absurd (omega arith)
+
+pub flag-of : (b : Bool) → eqb (flagBit b) 1 ≡ b
+flag-of false = refl
+flag-of true = refl
+
+-- ---- every code fits its field
+
+pub binary-lt : (s : Status) → binaryCode s < 4
+binary-lt Failure = lit< tt
+binary-lt NoData = lit< tt
+binary-lt Test = lit< tt
+binary-lt Ready = lit< tt
+
+pub decimal-lt : (s : Status) → decimalCode s < 4
+decimal-lt Failure = lit< tt
+decimal-lt NoData = lit< tt
+decimal-lt Test = lit< tt
+decimal-lt Ready = lit< tt
+
+pub marker-lt : (m : Marker) → markerCode m < 8
+marker-lt None = lit< tt
+marker-lt Outer = lit< tt
+marker-lt Middle = lit< tt
+marker-lt Inner = lit< tt
+
+pub category-lt : (k : Category) → categoryCode k < 4
+category-lt NotStated = lit< tt
+category-lt I = lit< tt
+category-lt II = lit< tt
+category-lt III = lit< tt
+
+pub flag-lt : (b : Bool) → flagBit b < 2
+flag-lt false = lit< tt
+flag-lt true = lit< tt

@@ -1,0 +1,143 @@
+// The codes of a word's fields: status, marker, category and flag.
+ghost use mathlib.Core.Path.{_≡_};
+ghost use Prim.Native.Nat.{_<_};
+ghost use Rattle.codes.specs.Codes.{binaryStatus, binaryCode, decimalStatus, decimalCode, markerOf, markerCode, markerListed, categoryOf, categoryCode, flagBit};
+
+// The status (SSM) of a word.
+pub enum Status {
+    Failure,
+    NoData,
+    Test,
+    Ready,
+}
+
+// The marker beacon that a VOR azimuth word reports.
+pub enum Marker {
+    None,
+    Outer,
+    Middle,
+    Inner,
+}
+
+// The ILS category. `NotStated` is our reading of a code that document 002 prints unreadably.
+pub enum Category {
+    NotStated,
+    I,
+    II,
+    III,
+}
+
+// The status that bits 30 and 31 of a binary word mean.
+pub fn binary_status(code: u32) -> Status
+    ensures { λ r. ⌜ r ≡ binaryStatus code ⌝ }
+{
+    match code {
+        0 => Status::Failure,
+        1 => Status::NoData,
+        2 => Status::Test,
+        _ => Status::Ready,
+    }
+}
+
+// Bits 30 and 31 of a binary word of this status.
+pub fn binary_code(status: Status) -> u32
+    ensures { λ r. ⌜ r ≡ binaryCode status ⌝ }
+    ensures { λ r. ⌜ r < 4 ⌝ }
+{
+    match status {
+        Status::Failure => 0,
+        Status::NoData => 1,
+        Status::Test => 2,
+        Status::Ready => 3,
+    }
+}
+
+// The status that bits 30 and 31 of a decimal word mean. No legal one means failure.
+pub fn decimal_status(code: u32) -> Status
+    ensures { λ r. ⌜ r ≡ decimalStatus code ⌝ }
+{
+    match code {
+        0 => Status::Ready,
+        1 => Status::NoData,
+        2 => Status::Test,
+        _ => Status::Failure,
+    }
+}
+
+// Bits 30 and 31 of a decimal word of this status.
+pub fn decimal_code(status: Status) -> u32
+    ensures { λ r. ⌜ r ≡ decimalCode status ⌝ }
+    ensures { λ r. ⌜ r < 4 ⌝ }
+{
+    match status {
+        Status::Failure => 3,
+        Status::NoData => 1,
+        Status::Test => 2,
+        Status::Ready => 0,
+    }
+}
+
+// Whether bits 11 to 13 are the code of a marker.
+pub fn is_marker(code: u32) -> bool
+    ensures { λ r. ⌜ r ≡ markerListed code ⌝ }
+{
+    (code == 0) | ((code == 1) | ((code == 2) | (code == 4)))
+}
+
+// The marker that a code means.
+pub fn marker_of(code: u32) -> Marker
+    ensures { λ r. ⌜ r ≡ markerOf code ⌝ }
+{
+    match code {
+        0 => Marker::None,
+        1 => Marker::Outer,
+        2 => Marker::Middle,
+        _ => Marker::Inner,
+    }
+}
+
+// The code of a marker.
+pub fn marker_code(marker: Marker) -> u32
+    ensures { λ r. ⌜ r ≡ markerCode marker ⌝ }
+    ensures { λ r. ⌜ r < 8 ⌝ }
+{
+    match marker {
+        Marker::None => 0,
+        Marker::Outer => 1,
+        Marker::Middle => 2,
+        Marker::Inner => 4,
+    }
+}
+
+// The category that a code means.
+pub fn category_of(code: u32) -> Category
+    ensures { λ r. ⌜ r ≡ categoryOf code ⌝ }
+{
+    match code {
+        0 => Category::NotStated,
+        1 => Category::I,
+        2 => Category::II,
+        _ => Category::III,
+    }
+}
+
+// The code of a category.
+pub fn category_code(category: Category) -> u32
+    ensures { λ r. ⌜ r ≡ categoryCode category ⌝ }
+    ensures { λ r. ⌜ r < 4 ⌝ }
+{
+    match category {
+        Category::NotStated => 0,
+        Category::I => 1,
+        Category::II => 2,
+        Category::III => 3,
+    }
+}
+
+// The bit of a flag.
+pub fn flag_bit(flag: bool) -> u32
+    ensures { λ r. ⌜ r ≡ flagBit flag ⌝ }
+    ensures { λ r. ⌜ r < 2 ⌝ }
+{
+    if flag { 1 } else { 0 }
+}

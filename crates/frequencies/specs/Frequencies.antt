@@ -1,0 +1,91 @@
+-- Frequencies in tens of kHz, and their decimal digits as the words send them.
+-- Assumes nothing.
+use mathlib.Core.Path.{_≡_}
+use mathlib.Core.Bool.{Bool, true, not, _&&_}
+use Prim.Native.Nat.{ℕ, zero, suc, _+_, _-_, _*_, _/_, _%_, _≤_, _<_}
+use native.Mathlib.Omega.{arith}
+use borrow.Author.Tests.{leb-true, eqb-true}
+use lib.Dec.{eqb, leb}
+use Rattle.bits.specs.Laws.{both-true}
+use Rattle.frequencies.specs.declared.Band.{Band}
+use Rattle.frequencies.specs.declared.Band.the-variants.{Vor, Ils, Mls}
+
+-- VOR and ILS words leave out 100 MHz, MLS words 5000 MHz
+abbrev pub offset : Band → ℕ
+offset Vor = 10000
+offset Ils = 10000
+offset Mls = 500000
+
+-- MLS tens 8 and 9 are sent as 0 and 1
+abbrev pub mlsTens : ℕ → ℕ
+mlsTens zero = 8
+mlsTens (suc zero) = 9
+mlsTens (suc (suc n)) = suc (suc n)
+
+-- the tens digit that a code of 3 bits means
+abbrev pub tensOf : Band → ℕ → ℕ
+tensOf Vor c = c
+tensOf Ils c = c
+tensOf Mls c = mlsTens c
+
+-- for MLS, 2 is no code
+abbrev pub tensListed : Band → ℕ → Bool
+tensListed Vor c = true
+tensListed Ils c = true
+tensListed Mls c = not (eqb c 2)
+
+-- the code of a tens digit
+abbrev pub tensCode : Band → ℕ → ℕ
+tensCode Vor d = d
+tensCode Ils d = d
+tensCode Mls d = d % 8
+
+-- the frequency that these digits give: hundredths, tenths, units of a MHz, and the code of the tens
+abbrev pub frequencyOf : Band → ℕ → ℕ → ℕ → ℕ → ℕ
+frequencyOf b hundredths tenths units tens = offset b + (((tensOf b tens * 10 + units) * 10 + tenths) * 10 + hundredths)
+
+-- VOR and ILS: any digits from 100.00 to 179.99 MHz; MLS: 5031.0 + 0.3 k MHz, k from 0 to 199
+abbrev pub legalFrequency : Band → ℕ → Bool
+legalFrequency Vor f = leb 10000 f && leb f 17999
+legalFrequency Ils f = leb 10000 f && leb f 17999
+legalFrequency Mls f = leb 503100 f && (leb f 509070 && eqb (f % 30) 0)
+
+-- a tens digit is at most 8 above its code
+pub tens-le : (b : Band) (c : ℕ) → tensOf b c ≤ c + 8
+tens-le Vor c = omega arith
+tens-le Ils c = omega arith
+tens-le Mls zero = omega arith
+tens-le Mls (suc zero) = omega arith
+tens-le Mls (suc (suc c)) = omega arith
+
+pub offset-le : (b : Band) → offset b ≤ 500000
+offset-le Vor = omega arith
+offset-le Ils = omega arith
+offset-le Mls = omega arith
+
+-- the code of a tens digit is no greater than it
+pub tens-code-le : (b : Band) (d : ℕ) → tensCode b d ≤ d
+tens-code-le Vor d = omega arith
+tens-code-le Ils d = omega arith
+tens-code-le Mls d = omega arith
+
+-- what the test of a frequency says
+pub vhf-range : (f : ℕ) → legalFrequency Vor f ≡ true → (10000 ≤ f) × (f ≤ 17999)
+vhf-range f e =
+    let b = both-true (leb 10000 f) (leb f 17999) e in
+    (leb-true 10000 f (b .0), leb-true f 17999 (b .1))
+
+pub mls-range : (f : ℕ) → legalFrequency Mls f ≡ true → (503100 ≤ f) × (f ≤ 509070) × (f % 30 ≡ 0)
+mls-range f e =
+    let b = both-true (leb 503100 f) (leb f 509070 && eqb (f % 30) 0) e in
+    let d = both-true (leb f 509070) (eqb (f % 30) 0) (b .1) in
+    (leb-true 503100 f (b .0), leb-true f 509070 (d .0), eqb-true (f % 30) 0 (d .1))
+
+vhf-tens : (f : ℕ) → (10000 ≤ f) × (f ≤ 17999) → f / 1000 % 10 < 8
+vhf-tens f r = omega arith
+
+-- the code of a legal frequency's tens has 3 bits
+pub tens-code-lt : (b : Band) (f : ℕ) → legalFrequency b f ≡ true → tensCode b (f / 1000 % 10) < 8
+tens-code-lt Vor f e = vhf-tens f (vhf-range f e)
+tens-code-lt Ils f e = vhf-tens f (vhf-range f e)
+tens-code-lt Mls f e = omega arith
