@@ -1,4 +1,3 @@
 pub mod Chart
-pub mod Order
 pub mod Points
 pub mod Words

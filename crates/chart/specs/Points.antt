@@ -16,6 +16,7 @@ use Rattle.records.specs.declared.CourseCount.{CourseCount}
 use Rattle.records.specs.declared.GlideCount.{GlideCount}
 use Rattle.records.specs.declared.Kind.{Kind}
 use Rattle.records.specs.declared.Record.{Record}
+use Rattle.refusals.specs.Order.{Rule, asks, Answers, Follows, no-rules, kept-one, broken-one, tested, reworded}
 use Rattle.refusals.specs.declared.Refusal.{Refusal}
 use Rattle.codes.specs.declared.Status.{Status}
 use Rattle.labels.specs.Table.{labelNumber, findKind, rows, found}
@@ -26,14 +27,29 @@ use Rattle.readings.specs.Meaning.{HasReading, Holds, IsReading, Shows, CountFi
 use Rattle.readings.specs.declared.Reading.{Reading}
 use Rattle.readings.specs.declared.Shown.{Shown}
 use Rattle.chart.specs.Chart.{isKind, areCourseAndGlide, differenceIn, differenceOf, joined, chartOf}
-use Rattle.chart.specs.Order.{Rule, asks, Follows, no-rules, tested, kept-first, broken-first, reworded, never}
 use Rattle.chart.specs.declared.ChartPoint.{ChartPoint}
 use Rattle.chart.specs.declared.Charted.{Charted}
 use Rattle.chart.specs.declared.Difference.{Difference}
 
+-- what is refused is no point
+pub never : (f : Refusal) (p : ChartPoint) → Charted.Refused f ≡ Charted.Point p → ⊥
+never f p e = let z : _≡_ {A = ℕ} 0 1 = cc in omega arith
+
+pub one-refusal : (f g : Refusal) → Charted.Refused f ≡ Charted.Refused g → f ≡ g
+one-refusal f g e = cc
+
+-- an answer is a refusal or a point
+abbrev pub charted : Answers Refusal Charted
+charted = record {
+  refuse = Charted.Refused;
+  accepts = λ answer. (p : ChartPoint) × (answer ≡ Charted.Point p);
+  apart = λ f h. never f (h .0) (h .1);
+  once = one-refusal;
+}
+
 -- ---- the rules of two records: 2 if they are not 173 and 174, 4 if their sources differ, 8 if one has no reading
 
-abbrev pub recordRules : Record → Record → List Rule
+abbrev pub recordRules : Record → Record → List (Rule Refusal)
 recordRules first second =
     asks ((kindOf (first .body) ≡ Kind.IlsCourse) × (kindOf (second .body) ≡ Kind.IlsGlide)) Refusal.Label
     ∷ asks (first .source ≡ second .source) Refusal.Code
@@ -89,39 +105,39 @@ told-course b e = told b (ap (λ (t : Bool). t || isKind (kindOf b) Kind.IlsGlid
 told-glide : (b : Body) → kindOf b ≡ Kind.IlsGlide → Told (readingOf b)
 told-glide b e = told b (ap (λ (k : Kind). isKind k Kind.IlsCourse || isKind k Kind.IlsGlide) e)
 
-abbrev BothRead : Shown → Shown → Rule
+abbrev BothRead : Shown → Shown → Rule Refusal
 BothRead x y = asks (HasReading x × HasReading y) Refusal.Reach
 
-one-missing : (x y : Shown) → (HasReading x × HasReading y → ⊥) → Follows (BothRead x y ∷ []) (Charted.Refused Refusal.Reach)
-one-missing x y n = broken-first (BothRead x y) [] Refusal.Reach n (n, refl) (λ g b. b .1)
+one-missing : (x y : Shown) → (HasReading x × HasReading y → ⊥) → Follows charted (BothRead x y ∷ []) (Charted.Refused Refusal.Reach)
+one-missing x y n = broken-one charted (HasReading x × HasReading y) Refusal.Reach [] n
 
-joined-follows : (x y : Shown) → Told x → Told y → Follows (BothRead x y ∷ []) (joined (differenceOf x) (differenceOf y))
+joined-follows : (x y : Shown) → Told x → Told y → Follows charted (BothRead x y ∷ []) (joined (differenceOf x) (differenceOf y))
 joined-follows x y (inl h) (inl k) =
     let both : HasReading x × HasReading y = (h .0, k .0) in
-    subst⁻¹ (Follows (BothRead x y ∷ [])) (ap₂ joined (h .1 .1) (k .1 .1))
-    (kept-first (BothRead x y) [] _ both (λ f b. b .0 both) (no-rules (record { course = h .1 .0; glide = k .1 .0 })))
-joined-follows x y (inl h) (inr k) = subst⁻¹ (Follows (BothRead x y ∷ [])) (ap₂ joined (h .1 .1) (k .1)) (one-missing x y (λ m. k .0 (m .1)))
-joined-follows x y (inr h) k = subst⁻¹ (Follows (BothRead x y ∷ [])) (ap (λ (d : Difference). joined d (differenceOf y)) (h .1)) (one-missing x y (λ m. h .0 (m .0)))
+    subst⁻¹ (Follows charted (BothRead x y ∷ [])) (ap₂ joined (h .1 .1) (k .1 .1))
+    (kept-one charted (HasReading x × HasReading y) Refusal.Reach [] _ both (no-rules charted (Charted.Point (record { course = h .1 .0; glide = k .1 .0 })) (record { course = h .1 .0; glide = k .1 .0 }, refl)))
+joined-follows x y (inl h) (inr k) = subst⁻¹ (Follows charted (BothRead x y ∷ [])) (ap₂ joined (h .1 .1) (k .1)) (one-missing x y (λ m. k .0 (m .1)))
+joined-follows x y (inr h) k = subst⁻¹ (Follows charted (BothRead x y ∷ [])) (ap (λ (d : Difference). joined d (differenceOf y)) (h .1)) (one-missing x y (λ m. h .0 (m .0)))
 
 -- ---- the order of the refusals, and when a point is given
 
 -- for rules that say the same of the two records in other words
 pub chart-follows : (first second : Record) (K S R : Type 0) → K ↔ ((kindOf (first .body) ≡ Kind.IlsCourse) × (kindOf (second .body) ≡ Kind.IlsGlide))
     → (K → S ↔ (first .source ≡ second .source)) → (K → (HasReading (readingOf (first .body)) × HasReading (readingOf (second .body))) ↔ R)
-    → Follows (asks K Refusal.Label ∷ asks S Refusal.Code ∷ asks R Refusal.Reach ∷ []) (chartOf first second)
+    → Follows charted (asks K Refusal.Label ∷ asks S Refusal.Code ∷ asks R Refusal.Reach ∷ []) (chartOf first second)
 chart-follows first second K S R kinds sources readings =
-    tested (areCourseAndGlide (first .body) (second .body)) K Refusal.Label _ _
+    tested charted (areCourseAndGlide (first .body) (second .body)) K Refusal.Label _ _
     (λ e.
     let b = both-true (isKind (kindOf (first .body)) Kind.IlsCourse) (isKind (kindOf (second .body)) Kind.IlsGlide) e in
     kinds .1 (same-kind (kindOf (first .body)) Kind.IlsCourse (b .0), same-kind (kindOf (second .body)) Kind.IlsGlide (b .1)))
     (λ k. ap₂ _&&_ (kind-same (kindOf (first .body)) Kind.IlsCourse (kinds .0 k .0)) (kind-same (kindOf (second .body)) Kind.IlsGlide (kinds .0 k .1)))
     (λ k.
-    tested (eqb (first .source) (second .source)) S Refusal.Code _ _ (λ e. sources k .1 (eqb-true (first .source) (second .source) e)) (λ s. eq-eqb (first .source) (second .source) (sources k .0 s))
+    tested charted (eqb (first .source) (second .source)) S Refusal.Code _ _ (λ e. sources k .1 (eqb-true (first .source) (second .source) e)) (λ s. eq-eqb (first .source) (second .source) (sources k .0 s))
     (λ s.
-    reworded _ R Refusal.Reach [] _ (readings k)
+    reworded charted _ R Refusal.Reach [] _ (readings k)
     (joined-follows (readingOf (first .body)) (readingOf (second .body)) (told-course (first .body) (kinds .0 k .0)) (told-glide (second .body) (kinds .0 k .1)))))
 
-pub chart-order : (first second : Record) → Follows (recordRules first second) (chartOf first second)
+pub chart-order : (first second : Record) → Follows charted (recordRules first second) (chartOf first second)
 chart-order first second = chart-follows first second _ _ _ (λ k. k, λ k. k) (λ k. (λ s. s, λ s. s)) (λ k. (λ r. r, λ r. r))
 
 -- ---- the doubles of a point

@@ -21,6 +21,7 @@ use Rattle.records.specs.Kinds.{kindOf}
 use Rattle.records.specs.declared.Body.{Body}
 use Rattle.records.specs.declared.Kind.{Kind}
 use Rattle.records.specs.declared.Record.{Record}
+use Rattle.refusals.specs.Order.{Rule, asks, Follows, kept-first, broken-first}
 use Rattle.refusals.specs.declared.Refusal.{Refusal}
 use Rattle.labels.specs.Label.{labelOf}
 use Rattle.labels.specs.Table.{labelNumber, kinds, rows, findKind, only}
@@ -36,8 +37,7 @@ use Rattle.readings.specs.Readings.{courseReading, glideReading, readingOf, sho
 use Rattle.readings.specs.Meaning.{HasReading, IsReading, CountFits}
 use Rattle.readings.specs.declared.Reading.{Reading}
 use Rattle.chart.specs.Chart.{isKind, chartOf}
-use Rattle.chart.specs.Order.{Rule, asks, Follows, kept-first, broken-first}
-use Rattle.chart.specs.Points.{same-kind, chart-follows, chart-right}
+use Rattle.chart.specs.Points.{charted, same-kind, chart-follows, chart-right}
 use Rattle.chart.specs.declared.ChartPoint.{ChartPoint}
 use Rattle.chart.specs.declared.Charted.{Charted}
 
@@ -53,7 +53,7 @@ chartPoint first second = chartDecoded (decodeOf first) (decodeOf second)
 -- ---- the rules of two words
 
 -- a word is accepted, or gives its own refusal
-abbrev pub accepted : ℕ → Rule
+abbrev pub accepted : ℕ → Rule Refusal
 accepted w = record { kept = (r : Record) × (decodeOf w ≡ Decoded.Accepted r); broken = λ f. decodeOf w ≡ Decoded.Refused f }
 
 -- bits 30 and 31 say test, 01, or ready, 11
@@ -61,7 +61,7 @@ abbrev pub TestOrReady : ℕ → Type 0
 TestOrReady w = (bits 30 31 w ≡ 2) ⊎ (bits 30 31 w ≡ 3)
 
 -- the first word's number, the second's, 2 if they are not 173 and 174, 4 if their sources differ, 8 if one has no reading
-abbrev pub wordRules : ℕ → ℕ → List Rule
+abbrev pub wordRules : ℕ → ℕ → List (Rule Refusal)
 wordRules first second =
     accepted first
     ∷ accepted second
@@ -163,7 +163,7 @@ glide-read w r d e =
 -- ---- the order of the refusals, and when a point is given
 
 records-follow : (w v : ℕ) (a b : Record) → Read w a → Read v b
-    → Follows (asks ((labelOf w ≡ 0o173) × (labelOf v ≡ 0o174)) Refusal.Label ∷ asks (bits 9 10 w ≡ bits 9 10 v) Refusal.Code ∷ asks (TestOrReady w × TestOrReady v) Refusal.Reach ∷ []) (chartOf a b)
+    → Follows charted (asks ((labelOf w ≡ 0o173) × (labelOf v ≡ 0o174)) Refusal.Label ∷ asks (bits 9 10 w ≡ bits 9 10 v) Refusal.Code ∷ asks (TestOrReady w × TestOrReady v) Refusal.Reach ∷ []) (chartOf a b)
 records-follow w v a b d e =
     let x = source-is w a d in
     let y = source-is v b e in
@@ -175,17 +175,17 @@ records-follow w v a b d e =
     let glide = glide-read v b e (k .1) in
     (λ h. (course .0 (h .0), glide .0 (h .1)), λ h. (course .1 (h .0), glide .1 (h .1))))
 
-pub word-order : (first second : ℕ) → Follows (wordRules first second) (chartPoint first second)
+pub word-order : (first second : ℕ) → Follows charted (wordRules first second) (chartPoint first second)
 word-order w v = go (decodeOf w) (decodeOf v) refl refl
   where
-    go : (d e : Decoded) → decodeOf w ≡ d → decodeOf v ≡ e → Follows (wordRules w v) (chartDecoded d e)
+    go : (d e : Decoded) → decodeOf w ≡ d → decodeOf v ≡ e → Follows charted (wordRules w v) (chartDecoded d e)
     go (Decoded.Accepted a) (Decoded.Accepted b) p q =
-        kept-first (accepted w) _ _ (a, p) (λ f h. clash (decodeOf w) f a h p)
-        (kept-first (accepted v) _ _ (b, q) (λ f h. clash (decodeOf v) f b h q) (records-follow w v a b (read w a p) (read v b q)))
+        kept-first charted (accepted w) _ _ (a, p) (λ f h. clash (decodeOf w) f a h p)
+        (kept-first charted (accepted v) _ _ (b, q) (λ f h. clash (decodeOf v) f b h q) (records-follow w v a b (read w a p) (read v b q)))
     go (Decoded.Accepted a) (Decoded.Refused f) p q =
-        kept-first (accepted w) _ _ (a, p) (λ g h. clash (decodeOf w) g a h p)
-        (broken-first (accepted v) _ f (λ k. clash (decodeOf v) f (k .0) q (k .1)) q (λ g h. same-refusal (decodeOf v) f g q h))
-    go (Decoded.Refused f) e p q = broken-first (accepted w) _ f (λ k. clash (decodeOf w) f (k .0) p (k .1)) p (λ g h. same-refusal (decodeOf w) f g p h)
+        kept-first charted (accepted w) _ _ (a, p) (λ g h. clash (decodeOf w) g a h p)
+        (broken-first charted (accepted v) _ f (λ k. clash (decodeOf v) f (k .0) q (k .1)) q (λ g h. same-refusal (decodeOf v) f g q h))
+    go (Decoded.Refused f) e p q = broken-first charted (accepted w) _ f (λ k. clash (decodeOf w) f (k .0) p (k .1)) p (λ g h. same-refusal (decodeOf w) f g p h)
 
 -- ---- the doubles of a point
 
@@ -197,7 +197,7 @@ nearest-of n divisor y h = let q : h .0 ≡ y = cc in subst (λ (z : Float). IsN
 
 pub point-of-words : (first second : ℕ) → PointOfWords first second (chartPoint first second)
 point-of-words w v p e =
-    let kept = word-order w v .point .0 (p, e) in
+    let kept = word-order w v .accepted .0 (p, e) in
     let a = kept .0 .0 in
     let b = kept .1 .0 .0 in
     let labels = kept .1 .1 .0 in

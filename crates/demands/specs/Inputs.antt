@@ -14,9 +14,10 @@ use lib.ListN.{length, drop}
 use Rattle.bits.specs.Layout.{clear}
 use Rattle.bits.specs.Parity.{odd}
 use Rattle.records.specs.Layouts.{wordLayout}
-use Rattle.refusals.specs.Numbers.{numberOf}
+use Rattle.refusals.specs.Numbers.{numberOf, number-bounds}
 use Rattle.records.specs.declared.Kind.{Kind}
 use Rattle.records.specs.declared.Record.{Record}
+use Rattle.refusals.specs.Order.{FirstBroken}
 use Rattle.refusals.specs.declared.Refusal.{Refusal}
 use Rattle.labels.specs.Label.{labelOf}
 use Rattle.labels.specs.Assignment.{Assignment, document01}
@@ -27,7 +28,6 @@ use Rattle.decode.specs.declared.Decoded.{Decoded}
 use Rattle.decode.specs.declared.Verdict.{Verdict}
 use Rattle.encode.specs.Encode.{codesListed, valuesLegal, wordOf, encodeOf}
 use Rattle.encode.specs.declared.Encoded.{Encoded}
-use Rattle.chart.specs.Order.{FirstBroken}
 use Rattle.chart.specs.Words.{wordRules, chartPoint, word-order}
 use Rattle.chart.specs.declared.ChartPoint.{ChartPoint}
 use Rattle.chart.specs.declared.Charted.{Charted}
@@ -293,23 +293,6 @@ scan-numbers s f p e =
 inside-numbers : (run : List ℕ) (f : Refusal) (p : ℕ) (ms : List ℕ) → insideOf run ≡ Refused f p → among (9 ∷ 10 ∷ 11 ∷ 12 ∷ ms) (numberOf f) ≡ true
 inside-numbers run f p ms e = nine-to-twelve (numberOf f) ms (subst (Bounded 2 0 (length run)) e (run-bounded 2 0 run (omega arith)) .number)
 
-some-number : (f : Refusal) → 1 ≤ numberOf f
-some-number Refusal.Parity = omega arith
-some-number Refusal.Label = omega arith
-some-number Refusal.ZeroBit = omega arith
-some-number Refusal.Code = omega arith
-some-number Refusal.Digit = omega arith
-some-number Refusal.Value = omega arith
-some-number Refusal.AngleParity = omega arith
-some-number Refusal.Reach = omega arith
-some-number Refusal.Truncated = omega arith
-some-number Refusal.Tag = omega arith
-some-number Refusal.Length = omega arith
-some-number Refusal.Depth = omega arith
-some-number Refusal.Room = omega arith
-some-number Refusal.Sequence = omega arith
-some-number Refusal.Oversize = omega arith
-
 part-numbers : (held : Reassembler) (w : ℕ) → Refusing (1 ∷ 2 ∷ 3 ∷ 4 ∷ 14 ∷ []) (ofAnswer (takeWord held w .answer))
 part-numbers held w = by (partIn w) refl
   where
@@ -320,7 +303,7 @@ part-numbers held w = by (partIn w) refl
 
     by : (x : PartIn) → partIn w ≡ x → Refusing (1 ∷ 2 ∷ 3 ∷ 4 ∷ 14 ∷ []) (ofAnswer (auxiliary.stepOf held x .answer))
     by (PartIn.Carried p) e = taken (takeOf (held .«group_c») p .answer)
-    by (PartIn.Refused f) e = four-in-a-row 1 (numberOf f) (14 ∷ []) (some-number f) (refusals document01 w f e)
+    by (PartIn.Refused f) e = four-in-a-row 1 (numberOf f) (14 ∷ []) (number-bounds f .0) (refusals document01 w f e)
 
 word-in-numbers : (b : Bool) (v : ℕ) → Refusing (11 ∷ []) (ofWordIn (cond b (WordIn.Word v) (WordIn.Refused Refusal.Length)))
 word-in-numbers true v = tt

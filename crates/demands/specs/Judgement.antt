@@ -1,9 +1,9 @@
--- A word is allowed and accepted, or has a first broken rule and is refused with it: every word is one of the two.
+-- Decoding follows the rules of a word, and they are all kept exactly by the words that are allowed.
 -- Assumes nothing.
-use mathlib.Core.Path.{_≡_, refl, sym, ap, _∙_, subst}
-use mathlib.Core.Bool.{Bool, true, false, true≢false}
+use mathlib.Core.Path.{_≡_, refl, sym, ap, _∙_, subst, subst⁻¹}
+use mathlib.Core.Bool.{Bool, true, false, cond}
 use mathlib.Core.List.{List, [], _∷_}
-use mathlib.Core.Logic.{_↔_, _⊎_, inl, inr}
+use mathlib.Core.Logic.{_↔_}
 use Prim.Native.Nat.{ℕ, _^_, _<_}
 use native.Mathlib.Omega.{arith}
 use Rattle.bits.specs.Layout.{clear, Clear}
@@ -12,152 +12,109 @@ use Rattle.bits.specs.Parity.{odd}
 use Rattle.records.specs.Layouts.{wordLayout}
 use Rattle.records.specs.declared.Kind.{Kind}
 use Rattle.records.specs.declared.Record.{Record}
+use Rattle.refusals.specs.Order as order
+use Rattle.refusals.specs.Order.{Rule, Answers, Follows, AllKept, no-rules, kept-one, broken-one, tested}
 use Rattle.refusals.specs.declared.Refusal.{Refusal}
 use Rattle.labels.specs.Label.{labelOf}
 use Rattle.labels.specs.Assignment.{Assignment}
 use Rattle.labels.specs.declared.Lookup.{Lookup}
 use Rattle.decode.specs.Rules.{Rules, rules}
-use Rattle.decode.specs.Decode.{verdict, recordOf, judged, decodeKind, decodeFound, decodeWith, parity-broken, parity-kept, zeros-broken, zeros-kept, digits-broken, codes-broken}
+use Rattle.decode.specs.Decode.{verdict, recordOf, judged, decodeKind, decodeFound, decodeWith}
 use Rattle.decode.specs.declared.Decoded.{Decoded}
 use Rattle.decode.specs.declared.Verdict.{Verdict}
-use Rattle.roundtrip.specs.Reading.{accepts}
 use Rattle.demands.specs.Allowed.{Asks, asks, Allowed}
-use Rattle.demands.specs.Order.{Rule, order, FirstBroken, here, later}
-use Rattle.demands.specs.Tests.{odd-test, Tested, tested}
+use Rattle.demands.specs.Order.{OfItsKind, fieldRules, wordRules}
+use Rattle.demands.specs.Tests as tests
+use Rattle.demands.specs.Tests.{odd-test}
 
--- refused with the first broken rule
-pub record Refuses (a : Assignment) (w : ℕ) : Type 0 where
-  pub refusal : Refusal
-  pub first : FirstBroken (Rule a w) order refusal
-  pub answer : decodeWith a w ≡ Decoded.Refused refusal
+pub never : (r : Record) (f : Refusal) → Decoded.Refused f ≡ Decoded.Accepted r → ⊥
+never r f e = let z : _≡_ {A = ℕ} 0 1 = cc in omega arith
 
--- or allowed, and accepted
-pub record Accepts (a : Assignment) (w : ℕ) : Type 0 where
-  pub allowed : Allowed a w
-  pub result : Record
-  pub answer : decodeWith a w ≡ Decoded.Accepted result
+pub one-refusal : (f g : Refusal) → Decoded.Refused f ≡ Decoded.Refused g → f ≡ g
+one-refusal f g e = cc
 
--- a test that failed is a rule that is broken
-fails : {b : Bool} {P : Type 0} → (b ≡ true) ↔ P → b ≡ false → P → ⊥
-fails t e p = true≢false (sym (t .1 p) ∙ e)
+-- a word is refused, or has a record
+abbrev pub decoded : Answers Refusal Decoded
+decoded = record {
+  refuse = Decoded.Refused;
+  accepts = λ d. (r : Record) × (d ≡ Decoded.Accepted r);
+  apart = λ f h. never (h .0) f (h .1);
+  once = one-refusal;
+}
 
-module _ (a : Assignment) (w : ℕ) (h : w < 2 ^ 32) where
+-- the judgement of a tested rule
+judged-test : (b : Bool) (v : Verdict) (f : Refusal) (r : Record) → judged (cond b v (Verdict.Broken f)) r ≡ cond b (judged v r) (Decoded.Refused f)
+judged-test true v f r = refl
+judged-test false v f r = refl
+
+module _ (a : Assignment) (w : ℕ) where
   -- the word's label is that of one kind only
-  one-kind : (j k : Kind) → a .kind (labelOf w) ≡ Lookup.Known k → labelOf w ≡ a .label j → k ≡ j
-  one-kind j k f e = let g : Lookup.Known k ≡ Lookup.Known j = sym f ∙ ap (a .kind) e ∙ a .found j in cc
+  one-kind : (j k : Kind) → labelOf w ≡ a .label j → labelOf w ≡ a .label k → j ≡ k
+  one-kind j k e f = let g : Lookup.Known j ≡ Lookup.Known k = sym (a .found j) ∙ ap (a .kind) (sym e ∙ f) ∙ a .found k in cc
 
-  module _ (p : odd w ≡ true) (k : Kind) (f : a .kind (labelOf w) ≡ Lookup.Known k) where
-    own-label : labelOf w ≡ a .label k
-    own-label = sym (a .only (labelOf w) k f)
+  -- what is asked of the kind of the word's label, and what holds of that kind
+  of-its-kind : (k : Kind) → labelOf w ≡ a .label k → (P : Kind → Type 0) → P k ↔ OfItsKind a w P
+  of-its-kind k e P = (λ x j f. subst P (one-kind k j e f) x, λ x. x k e)
 
-    -- what holds of that kind holds of the kind that the label stands for
-    of-kind : (P : Kind → Type 0) → P k → (j : Kind) → labelOf w ≡ a .label j → P j
-    of-kind P x j e = subst P (one-kind j k f e) x
+  module _ (k : Kind) (own : labelOf w ≡ a .label k) where
+    -- a rule of the fields: its test says what is asked of this kind
+    field-follows : (P : Kind → Type 0) (rest : List (Rule Refusal)) (b : Bool) (v : Verdict) (f : Refusal) → (b ≡ true) ↔ P k
+        → (P k → Follows decoded rest (judged v (recordOf k w))) → Follows decoded (order.asks (OfItsKind a w P) f ∷ rest) (judged (cond b v (Verdict.Broken f)) (recordOf k w))
+    field-follows P rest b v f test next =
+        let its = of-its-kind k own P in
+        subst⁻¹ (Follows decoded (order.asks (OfItsKind a w P) f ∷ rest)) (judged-test b v f (recordOf k w))
+        (tested decoded b (OfItsKind a w P) f rest (judged v (recordOf k w)) (λ e. its .0 (test .0 e)) (λ x. test .1 (its .1 x)) (λ x. next (its .1 x)))
 
-    parity-holds : Rule a w Refusal.Parity
-    parity-holds = odd-test w h .0 p
+    fields-follow : Follows decoded (fieldRules a w) (judged (verdict (rules k w)) (recordOf k w))
+    fields-follow =
+        let t = tests.tested k w in
+        field-follows (λ j. asks j w .digits) _ (rules k w .digits) _ Refusal.Digit (t .digits)
+        (λ d. field-follows (λ j. asks j w .codes) _ (rules k w .codes) _ Refusal.Code (t .codes)
+        (λ c. field-follows (λ j. asks j w .value) _ (rules k w .value) _ Refusal.Value (t .value d)
+        (λ v. field-follows (λ j. asks j w .angle) _ (rules k w .angle) _ Refusal.AngleParity (t .angle)
+        (λ n. no-rules decoded (Decoded.Accepted (recordOf k w)) (recordOf k w, refl)))))
 
-    label-holds : Rule a w Refusal.Label
-    label-holds = (k, own-label)
+    kind-follows : Follows decoded (order.asks (OfItsKind a w (λ j. Clear (wordLayout j) w)) Refusal.ZeroBit ∷ fieldRules a w) (decodeKind k w)
+    kind-follows =
+        let its = of-its-kind k own (λ (j : Kind). Clear (wordLayout j) w) in
+        let test = clear-test (wordLayout k) w in
+        tested decoded (clear (wordLayout k) w) _ Refusal.ZeroBit (fieldRules a w) _ (λ e. its .0 (test .0 e)) (λ x. test .1 (its .1 x)) (λ x. fields-follow)
 
-    at-kind : decodeWith a w ≡ decodeKind k w
-    at-kind = parity-kept a w p ∙ ap (λ (l : Lookup). decodeFound l w) f
-
-    module _ (z : clear (wordLayout k) w ≡ true) where
-      zeros-hold : Clear (wordLayout k) w
-      zeros-hold = clear-test (wordLayout k) w .0 z
-
-      at-verdict : decodeWith a w ≡ judged (verdict (rules k w)) (recordOf k w)
-      at-verdict = at-kind ∙ zeros-kept k w z
-
-      -- refused with f, after the rules that hold
-      refuse : (g : Refusal) → verdict (rules k w) ≡ Verdict.Broken g → FirstBroken (Rule a w) (Refusal.Digit ∷ Refusal.Code ∷ Refusal.Value ∷ Refusal.AngleParity ∷ []) g → Refuses a w
-      refuse g v b = record {
-        refusal = g;
-        first = later parity-holds (later label-holds (later (of-kind (λ (j : Kind). Clear (wordLayout j) w) zeros-hold) b));
-        answer = at-verdict ∙ ap (λ (u : Verdict). judged u (recordOf k w)) v;
-      }
-
-      module _ (t : Tested k w) where
-        -- the rule of a field of `asks` is broken where its test failed
-        breaks : (P : Kind → Type 0) → (P k → ⊥) → ((j : Kind) → labelOf w ≡ a .label j → P j) → ⊥
-        breaks P n r = n (r k own-label)
-
-        by-angle : (b : Bool) → rules k w .angle ≡ b → rules k w .digits ≡ true → rules k w .codes ≡ true → rules k w .value ≡ true → Refuses a w ⊎ Accepts a w
-        by-angle true n d c v =
-            inr (record {
-              allowed = record {
-                parity = parity-holds;
-                kind = k;
-                label = own-label;
-                zeros = zeros-hold;
-                digits = t .digits .0 d;
-                codes = t .codes .0 c;
-                value = t .value (t .digits .0 d) .0 v;
-                angle = t .angle .0 n;
-              };
-              result = recordOf k w;
-              answer = accepts a w k (record { parity = p; label = f; zeros = z; kept = record { digits = d; codes = c; value = v; angle = n } });
-            })
-        by-angle false n d c v =
-            inl
-            (refuse Refusal.AngleParity (rw (d, c, v, n))
-            (later (of-kind (λ (j : Kind). asks j w .digits) (t .digits .0 d))
-            (later (of-kind (λ (j : Kind). asks j w .codes) (t .codes .0 c))
-            (later (of-kind (λ (j : Kind). asks j w .value) (t .value (t .digits .0 d) .0 v))
-            (here (breaks (λ (j : Kind). asks j w .angle) (fails (t .angle) n)))))))
-
-        by-value : (b : Bool) → rules k w .value ≡ b → rules k w .digits ≡ true → rules k w .codes ≡ true → Refuses a w ⊎ Accepts a w
-        by-value true v d c = by-angle (rules k w .angle) refl d c v
-        by-value false v d c =
-            inl
-            (refuse Refusal.Value (rw (d, c, v))
-            (later (of-kind (λ (j : Kind). asks j w .digits) (t .digits .0 d))
-            (later (of-kind (λ (j : Kind). asks j w .codes) (t .codes .0 c))
-            (here (breaks (λ (j : Kind). asks j w .value) (fails (t .value (t .digits .0 d)) v))))))
-
-        by-codes : (b : Bool) → rules k w .codes ≡ b → rules k w .digits ≡ true → Refuses a w ⊎ Accepts a w
-        by-codes true c d = by-value (rules k w .value) refl d c
-        by-codes false c d =
-            inl
-            (refuse Refusal.Code (codes-broken (rules k w) d c)
-            (later (of-kind (λ (j : Kind). asks j w .digits) (t .digits .0 d))
-            (here (breaks (λ (j : Kind). asks j w .codes) (fails (t .codes) c)))))
-
-        by-digits : (b : Bool) → rules k w .digits ≡ b → Refuses a w ⊎ Accepts a w
-        by-digits true d = by-codes (rules k w .codes) refl d
-        by-digits false d =
-            inl
-            (refuse Refusal.Digit (digits-broken (rules k w) d)
-            (here (breaks (λ (j : Kind). asks j w .digits) (fails (t .digits) d))))
-
-    by-zeros : (b : Bool) → clear (wordLayout k) w ≡ b → Refuses a w ⊎ Accepts a w
-    by-zeros true z = by-digits z (tested k w) (rules k w .digits) refl
-    by-zeros false z =
-        let broken : Rule a w Refusal.ZeroBit → ⊥ = λ r. fails (clear-test (wordLayout k) w) z (r k own-label) in
-        inl (record {
-          refusal = Refusal.ZeroBit;
-          first = later parity-holds (later label-holds (here broken));
-          answer = at-kind ∙ zeros-broken k w z;
-        })
-
-  by-label : (l : Lookup) → a .kind (labelOf w) ≡ l → odd w ≡ true → Refuses a w ⊎ Accepts a w
-  by-label (Lookup.Known k) f p = by-zeros p k f (clear (wordLayout k) w) refl
-  by-label Lookup.Unknown f p =
-      let broken : Rule a w Refusal.Label → ⊥ = λ s.
+  found-follows : (l : Lookup) → a .kind (labelOf w) ≡ l
+      → Follows decoded (order.asks ((k : Kind) × (labelOf w ≡ a .label k)) Refusal.Label ∷ order.asks (OfItsKind a w (λ k. Clear (wordLayout k) w)) Refusal.ZeroBit ∷ fieldRules a w) (decodeFound l w)
+  found-follows (Lookup.Known k) f =
+      let own : labelOf w ≡ a .label k = sym (a .only (labelOf w) k f) in
+      kept-one decoded _ Refusal.Label _ _ (k, own) (kind-follows k own)
+  found-follows Lookup.Unknown f =
+      broken-one decoded _ Refusal.Label _
+      (λ s.
       let g : Lookup.Known (s .0) ≡ Lookup.Unknown = sym (a .found (s .0)) ∙ ap (a .kind) (sym (s .1)) ∙ f in
       let z : _≡_ {A = ℕ} 0 1 = cc in
-      omega arith in
-      inl (record {
-        refusal = Refusal.Label;
-        first = later (odd-test w h .0 p) (here broken);
-        answer = parity-kept a w p ∙ ap (λ (l : Lookup). decodeFound l w) f;
-      })
+      omega arith)
 
-  by-parity : (b : Bool) → odd w ≡ b → Refuses a w ⊎ Accepts a w
-  by-parity true p = by-label (a .kind (labelOf w)) refl p
-  by-parity false p =
-      inl (record { refusal = Refusal.Parity; first = here (fails (odd-test w h) p); answer = parity-broken a w p })
+  -- A word is refused with its first broken rule, and accepted when none is broken.
+  pub word-order : w < 2 ^ 32 → Follows decoded (wordRules a w) (decodeWith a w)
+  word-order h =
+      let test = odd-test w h in
+      tested decoded (odd w) _ Refusal.Parity _ _ (test .0) (test .1) (λ p. found-follows (a .kind (labelOf w)) refl)
 
-  pub judge : Refuses a w ⊎ Accepts a w
-  judge = by-parity (odd w) refl
+  -- The words that keep every rule are the allowed ones.
+  pub allowed : AllKept (wordRules a w) ↔ Allowed a w
+  allowed = (
+    λ r.
+        let k = r .1 .0 .0 in
+        let own = r .1 .0 .1 in
+        record {
+          parity = r .0;
+          kind = k;
+          label = own;
+          zeros = r .1 .1 .0 k own;
+          digits = r .1 .1 .1 .0 k own;
+          codes = r .1 .1 .1 .1 .0 k own;
+          value = r .1 .1 .1 .1 .1 .0 k own;
+          angle = r .1 .1 .1 .1 .1 .1 .0 k own;
+        },
+    λ x.
+        let its : (P : Kind → Type 0) → P (x .kind) → OfItsKind a w P = λ P. of-its-kind (x .kind) (x .label) P .0 in
+        (x .parity, ((x .kind, x .label), (its _ (x .zeros), (its (λ j. asks j w .digits) (x .digits), (its (λ j. asks j w .codes) (x .codes), (its (λ j. asks j w .value) (x .value), (its (λ j. asks j w .angle) (x .angle), tt))))))),
+  )

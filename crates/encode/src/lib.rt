@@ -202,7 +202,8 @@ fn upper_decimal(band: Band, status: Status, first: u32, frequency: u32) -> u32
     requires { ⌜ first < 4 ⌝ }
     ensures { λ r. ⌜ r ≡ ((((decimalCode status * 8 + tensCode band (frequency / 1000 % 10)) * 16 + frequency / 100 % 10) * 16 + frequency / 10 % 10) * 16 + frequency % 10) * 16 + first ⌝ }
 {
-    let tens = codes::decimal_code(status) * 8 + frequencies::tens_code(band, frequency / 1000 % 10);
+    let tens = codes::decimal_code(status) * 8
+        + frequencies::tens_code(band, frequency / 1000 % 10);
     let tenths = (tens * 16 + frequency / 100 % 10) * 16 + frequency / 10 % 10;
     (tenths * 16 + frequency % 10) * 16 + first
 }
@@ -240,12 +241,7 @@ fn upper_bits(body: Body) -> u32
             status,
             category,
             frequency,
-        } => upper_decimal(
-            Band::Ils,
-            status,
-            codes::category_code(category),
-            frequency,
-        ),
+        } => upper_decimal(Band::Ils, status, codes::category_code(category), frequency),
         Body::MlsFrequency { status, frequency } => upper_decimal(Band::Mls, status, 0, frequency),
         Body::MlsAzimuthDeviation {
             status,

@@ -8,7 +8,7 @@ use native.Mathlib.Omega.{arith}
 use borrow.Author.Tests.{le-leb, leb-true}
 use lib.Dec.{leb}
 use Rattle.bits.specs.Laws.{both-true}
-use Rattle.refusals.specs.Numbers.{numberOf}
+use Rattle.refusals.specs.Numbers.{numberOf, number-bounds}
 use Rattle.records.specs.declared.Kind.{Kind}
 use Rattle.records.specs.declared.Record.{Record}
 use Rattle.refusals.specs.declared.Refusal.{Refusal}
@@ -41,21 +41,7 @@ word-back w r h e =
 
 -- no refusal has the number 0
 pub no-number : (x : Refusal) → numberOf x ≡ 0 → ⊥
-no-number Refusal.Parity e = omega arith
-no-number Refusal.Label e = omega arith
-no-number Refusal.ZeroBit e = omega arith
-no-number Refusal.Code e = omega arith
-no-number Refusal.Digit e = omega arith
-no-number Refusal.Value e = omega arith
-no-number Refusal.AngleParity e = omega arith
-no-number Refusal.Reach e = omega arith
-no-number Refusal.Truncated e = omega arith
-no-number Refusal.Tag e = omega arith
-no-number Refusal.Length e = omega arith
-no-number Refusal.Depth e = omega arith
-no-number Refusal.Room e = omega arith
-no-number Refusal.Sequence e = omega arith
-no-number Refusal.Oversize e = omega arith
+no-number x e = omega (arith, number-bounds x .0)
 
 is-word : (x : Encoded) (w : ℕ) → flatWord x ≡ record { refusal = 0; word = w } → x ≡ Encoded.Word w
 is-word (Encoded.Word v) w e = ap Encoded.Word (ap (λ (y : FlatWord). y .word) e)

@@ -5,39 +5,21 @@ use mathlib.Core.List.{List}
 use Prim.Native.Nat.{ℕ, zero, suc, _+_, _≤_, _<_}
 use native.Mathlib.Omega.{arith}
 use lib.ListN.{length}
-use Rattle.refusals.specs.Numbers.{numberOf}
-use Rattle.refusals.specs.declared.Refusal.{Refusal}
-use Rattle.refusals.specs.declared.Refusal.the-variants.{Parity, Label, ZeroBit, Code, Digit, Value, AngleParity, Reach, Truncated, Tag, Length, Depth, Room, Sequence, Oversize}
+use Rattle.refusals.specs.Numbers.{refusal-of-number}
+use Rattle.refusals.specs.declared.Numbered.{Numbered}
 use Rattle.walk.specs.declared.Given.{Given}
 use Rattle.walk.specs.declared.Walk.{Walk}
 use Rattle.walk.specs.Stands.{advances}
 use Rattle.walk.specs.Step.{startWalk, stepOf}
 use Rattle.flat_walks.specs.declared.FlatWalk.{FlatWalk}
-use Rattle.flat_walks.specs.Walks.{flatWalk, refusals, refusedBy, walkFrom, flatField, stepped}
+use Rattle.flat_walks.specs.Walks.{flatWalk, walkNumbered, walkFrom, flatField, stepped}
 
 -- ---- numbers and back
-
-by-number : (f : Refusal) (p : ℕ) (other : Walk) → refusedBy refusals (numberOf f) p other ≡ Walk.Refused f p
-by-number Parity p w = refl
-by-number Label p w = refl
-by-number ZeroBit p w = refl
-by-number Code p w = refl
-by-number Digit p w = refl
-by-number Value p w = refl
-by-number AngleParity p w = refl
-by-number Reach p w = refl
-by-number Truncated p w = refl
-by-number Tag p w = refl
-by-number Length p w = refl
-by-number Depth p w = refl
-by-number Room p w = refl
-by-number Sequence p w = refl
-by-number Oversize p w = refl
 
 -- The numbers of a walk stand for it.
 pub walk-back : (w : Walk) → walkFrom (flatWalk w) ≡ w
 walk-back (Walk.At w) = refl
-walk-back (Walk.Refused f p) = by-number f p _
+walk-back (Walk.Refused f p) = ap (λ (n : Numbered). walkNumbered n (flatWalk (Walk.Refused f p))) (refusal-of-number f)
 
 -- ---- many steps
 

@@ -1,12 +1,9 @@
 -- A walk over a sheet with its state and its fields as numbers.
 -- Assumes nothing.
-use mathlib.Core.Bool.{cond}
-use mathlib.Core.List.{List, [], _∷_}
+use mathlib.Core.List.{List}
 use Prim.Native.Nat.{ℕ}
-use lib.Dec.{eqb}
-use Rattle.refusals.specs.Numbers.{numberOf}
-use Rattle.refusals.specs.declared.Refusal.{Refusal}
-use Rattle.refusals.specs.declared.Refusal.the-variants.{Parity, Label, ZeroBit, Code, Digit, Value, AngleParity, Reach, Truncated, Tag, Length, Depth, Room, Sequence, Oversize}
+use Rattle.refusals.specs.Numbers.{numberOf, refusalOf}
+use Rattle.refusals.specs.declared.Numbered.{Numbered}
 use Rattle.fields.specs.Start.{tagOf}
 use Rattle.walk.specs.declared.Given.{Given}
 use Rattle.walk.specs.declared.Walk.{Walk}
@@ -21,19 +18,13 @@ abbrev pub flatWalk : Walk → FlatWalk
 flatWalk (Walk.At w) = record { refusal = 0; place = w .place; end1 = w .end1; end2 = w .end2; end3 = w .end3 }
 flatWalk (Walk.Refused f p) = record { refusal = numberOf f; place = p; end1 = 0; end2 = 0; end3 = 0 }
 
--- all refusals
-abbrev pub refusals : List Refusal
-refusals =
-    Parity ∷ Label ∷ ZeroBit ∷ Code ∷ Digit ∷ Value ∷ AngleParity ∷ Reach ∷ Truncated ∷ Tag ∷ Length ∷ Depth ∷ Room ∷ Sequence ∷ Oversize ∷ []
-
--- the walk refused by that one of these refusals whose number this is, or else another walk
-abbrev pub refusedBy : List Refusal → (number offset : ℕ) → Walk → Walk
-refusedBy [] n p other = other
-refusedBy (f ∷ fs) n p other = cond (eqb n (numberOf f)) (Walk.Refused f p) (refusedBy fs n p other)
-
 -- the walk that numbers stand for, for all numbers: that of a refused sheet beside a refusal's number, else a position
+abbrev pub walkNumbered : Numbered → FlatWalk → Walk
+walkNumbered (Numbered.Refusal f) w = Walk.Refused f (w .place)
+walkNumbered Numbered.Nothing w = Walk.At (record { place = w .place; end1 = w .end1; end2 = w .end2; end3 = w .end3 })
+
 abbrev pub walkFrom : FlatWalk → Walk
-walkFrom w = refusedBy refusals (w .refusal) (w .place) (Walk.At (record { place = w .place; end1 = w .end1; end2 = w .end2; end3 = w .end3 }))
+walkFrom w = walkNumbered (refusalOf (w .refusal)) w
 
 -- the numbers of what a step gives
 abbrev pub flatField : Given → FlatField

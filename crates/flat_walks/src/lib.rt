@@ -1,6 +1,6 @@
 // A walk over a sheet with its state and its fields as numbers.
 use fields::FieldKind;
-use refusals::Refusal;
+use refusals::Numbered;
 use walk::Given;
 use walk::Position;
 use walk::Walk;
@@ -108,26 +108,11 @@ fn flat_walk(walk: Walk) -> FlatWalk
 fn walk_from(walk: FlatWalk) -> Walk
     ensures { λ r. ⌜ r ≡ walkFrom walk ⌝ }
 {
-    let place = walk.place;
     let refusal = walk.refusal;
-    match refusal {
-        1 => Walk::Refused(Refusal::Parity, place),
-        2 => Walk::Refused(Refusal::Label, place),
-        3 => Walk::Refused(Refusal::ZeroBit, place),
-        4 => Walk::Refused(Refusal::Code, place),
-        5 => Walk::Refused(Refusal::Digit, place),
-        6 => Walk::Refused(Refusal::Value, place),
-        7 => Walk::Refused(Refusal::AngleParity, place),
-        8 => Walk::Refused(Refusal::Reach, place),
-        9 => Walk::Refused(Refusal::Truncated, place),
-        10 => Walk::Refused(Refusal::Tag, place),
-        11 => Walk::Refused(Refusal::Length, place),
-        12 => Walk::Refused(Refusal::Depth, place),
-        13 => Walk::Refused(Refusal::Room, place),
-        14 => Walk::Refused(Refusal::Sequence, place),
-        15 => Walk::Refused(Refusal::Oversize, place),
-        _ => Walk::At(Position {
-            place: place,
+    match refusals::refusal_of(refusal) {
+        Numbered::Refusal(refusal) => Walk::Refused(refusal, walk.place),
+        Numbered::Nothing => Walk::At(Position {
+            place: walk.place,
             end1: walk.end1,
             end2: walk.end2,
             end3: walk.end3,

@@ -14,7 +14,7 @@ use Rattle.bits.specs.Complement.{signed, signed-holds}
 use Rattle.rounding.specs.Rounding.{roundEven}
 use Rattle.rounding.specs.Parts as parts
 use Rattle.frequencies.specs.Frequencies.{frequencyOf, tens-le, offset-le}
-use Rattle.refusals.specs.Numbers.{numberOf}
+use Rattle.refusals.specs.Numbers.{numberOf, number-bounds}
 use Rattle.frequencies.specs.declared.Band.{Band}
 use Rattle.records.specs.declared.Kind.{Kind}
 use Rattle.records.specs.declared.Record.{Record}
@@ -129,21 +129,7 @@ record-short : (label source : ℕ) (c : Columns) → source < 10 → Short c �
 record-short label source c s h = simp length-append (omega (arith, h .within, decimal-length 0 source s))
 
 refusal-number : (f : Refusal) → numberOf f < 10 ^ 2
-refusal-number Refusal.Parity = omega arith
-refusal-number Refusal.Label = omega arith
-refusal-number Refusal.ZeroBit = omega arith
-refusal-number Refusal.Code = omega arith
-refusal-number Refusal.Digit = omega arith
-refusal-number Refusal.Value = omega arith
-refusal-number Refusal.AngleParity = omega arith
-refusal-number Refusal.Reach = omega arith
-refusal-number Refusal.Truncated = omega arith
-refusal-number Refusal.Tag = omega arith
-refusal-number Refusal.Length = omega arith
-refusal-number Refusal.Depth = omega arith
-refusal-number Refusal.Room = omega arith
-refusal-number Refusal.Sequence = omega arith
-refusal-number Refusal.Oversize = omega arith
+refusal-number f = omega (arith, number-bounds f .1)
 
 refused-length : (f : Refusal) → length (refusedLine f) ≤ 11
 refused-length f = simp length-append (omega (arith, decimal-length 1 (numberOf f) (refusal-number f)))

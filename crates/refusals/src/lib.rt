@@ -1,6 +1,6 @@
 // The refusals of document 01 and their numbers.
 ghost use mathlib.Core.Path.{_≡_};
-ghost use Rattle.refusals.specs.Numbers.{numberOf};
+ghost use Rattle.refusals.specs.Numbers.{numberOf, refusalOf};
 
 // Why an input is refused. `numberOf` in specs/ gives document 01's number of each.
 pub enum Refusal {
@@ -36,6 +36,12 @@ pub enum Refusal {
     Oversize,
 }
 
+// The refusal of a number, or none.
+pub enum Numbered {
+    Refusal(Refusal),
+    Nothing,
+}
+
 // Document 01's number of a refusal.
 pub fn number(refusal: Refusal) -> u8
     ensures { λ r. ⌜ r ≡ numberOf refusal ⌝ }
@@ -56,5 +62,29 @@ pub fn number(refusal: Refusal) -> u8
         Refusal::Room => 13,
         Refusal::Sequence => 14,
         Refusal::Oversize => 15,
+    }
+}
+
+// The refusal that has this number.
+pub fn refusal_of(number: u8) -> Numbered
+    ensures { λ r. ⌜ r ≡ refusalOf number ⌝ }
+{
+    match number {
+        1 => Numbered::Refusal(Refusal::Parity),
+        2 => Numbered::Refusal(Refusal::Label),
+        3 => Numbered::Refusal(Refusal::ZeroBit),
+        4 => Numbered::Refusal(Refusal::Code),
+        5 => Numbered::Refusal(Refusal::Digit),
+        6 => Numbered::Refusal(Refusal::Value),
+        7 => Numbered::Refusal(Refusal::AngleParity),
+        8 => Numbered::Refusal(Refusal::Reach),
+        9 => Numbered::Refusal(Refusal::Truncated),
+        10 => Numbered::Refusal(Refusal::Tag),
+        11 => Numbered::Refusal(Refusal::Length),
+        12 => Numbered::Refusal(Refusal::Depth),
+        13 => Numbered::Refusal(Refusal::Room),
+        14 => Numbered::Refusal(Refusal::Sequence),
+        15 => Numbered::Refusal(Refusal::Oversize),
+        _ => Numbered::Nothing,
     }
 }
