@@ -14,8 +14,8 @@ test: SHELL := /bin/bash
 test:
 	tests/repository/run
 	rt fmt --check
-	cmp examples/flight.sheet crates/check_sheets/data/flight/0000.bin
-	cmp examples/flight.txt crates/check_sheets/data/flight/0000.txt
+	cmp examples/flight.sheet crates/test_sheets/data/flight/0000.bin
+	cmp examples/flight.txt crates/test_sheets/data/flight/0000.txt
 	@set -o pipefail; log=$$(mktemp) && rt ci 2>&1 | tee "$$log" && $(MAKE) --no-print-directory test-model test-c test-rust test-install && tail -n 1 "$$log" && rm -f "$$log"
 
 # The daily loop: what has changed is proved again, the programs and the C and Rust tests are run; no wrong program is tried.
@@ -35,8 +35,8 @@ library:
 
 # The C tests, as C99 and as C++11, on the test vectors.
 test-c: library
-	tests/c/run words crates/check_words/data/words.txt crates/check_figures/data/figures.txt crates/check_groups/data/joins.txt
-	tests/c/run sheets crates/check_sheets/data/*/*.bin
+	tests/c/run words crates/test_words/data/words.txt crates/test_figures/data/figures.txt crates/test_reassembly/data/joins.txt
+	tests/c/run sheets crates/test_sheets/data/*/*.bin
 
 # The independent model on the test vectors and on document 01's lines.
 test-model:

@@ -24,7 +24,7 @@ fn hex(text: &str) -> u32 {
 
 #[test]
 fn words() {
-    for line in lines("check_words/data/words.txt", 900) {
+    for line in lines("test_words/data/words.txt", 900) {
         let word = hex(&line[0]);
         let (refusal, count) = match model::decode(word) {
             Ok(record) => (0, word::count_of(&record).unwrap_or(0)),
@@ -36,7 +36,7 @@ fn words() {
 
 #[test]
 fn figures() {
-    for line in lines("check_figures/data/figures.txt", 600) {
+    for line in lines("test_figures/data/figures.txt", 600) {
         let label = u8::from_str_radix(&line[0], 8).unwrap();
         let answer = match model::code(label, line[1].parse().unwrap(), line[2].parse().unwrap()) {
             Ok(word) => format!("{word:08X}"),
@@ -49,7 +49,7 @@ fn figures() {
 #[test]
 fn joins() {
     let mut state = None;
-    for line in lines("check_groups/data/joins.txt", 200) {
+    for line in lines("test_reassembly/data/joins.txt", 200) {
         let (next, answer) = reassembly::step(state, hex(&line[0]));
         let text = match answer {
             Answer::Taken(number) => format!("begun C {number}"),
@@ -65,7 +65,7 @@ fn joins() {
 #[test]
 fn sheets() {
     let mut names: Vec<PathBuf> =
-        fs::read_dir(data("check_sheets/data/sheets")).unwrap().map(|entry| entry.unwrap().path()).collect();
+        fs::read_dir(data("test_sheets/data/sheets")).unwrap().map(|entry| entry.unwrap().path()).collect();
     names.retain(|name| name.extension().is_some_and(|extension| extension == "bin"));
     names.sort();
     assert!(names.len() >= 80, "{} sheets", names.len());

@@ -128,7 +128,7 @@ fn every_short_field() {
 /// The sheets of the test vectors, each damaged once at every place of its start, and then again and again at random.
 #[test]
 fn damaged_vectors() {
-    let folder = PathBuf::from(env!("CARGO_MANIFEST_DIR")).join("../../crates/check_sheets/data/sheets");
+    let folder = PathBuf::from(env!("CARGO_MANIFEST_DIR")).join("../../crates/test_sheets/data/sheets");
     let mut random = Random::from_environment("damaged vectors", 6);
     let mut sheets = 0;
     for entry in fs::read_dir(folder).unwrap() {

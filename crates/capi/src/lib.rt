@@ -2,8 +2,8 @@
 use flat_contents::FlatFigure;
 use flat_contents::FlatNote;
 use flat_figures::FlatMillionths;
-use flat_groups::FlatStep;
-use flat_groups::Partial;
+use flat_reassembly::FlatStep;
+use flat_reassembly::Partial;
 use flat_listing::FlatListed;
 use flat_places::FlatPlace;
 use flat_readings::FlatPoint;
@@ -27,7 +27,7 @@ ghost use Rattle.writer.specs.Write.{writeOf, groupOf};
 ghost use Rattle.listing.specs.Listing.{textOf, listedOf, bufferOf};
 ghost use Rattle.flat_contents.specs.Contents.{flatWordIn, flatFigureIn, flatNote};
 ghost use Rattle.flat_figures.specs.Printing.{printedOf};
-ghost use Rattle.flat_groups.specs.Steps.{reassembled};
+ghost use Rattle.flat_reassembly.specs.Steps.{reassembled};
 ghost use Rattle.flat_listing.specs.Listed.{flatListed};
 ghost use Rattle.flat_places.specs.Places.{flatChecked, flatWritten};
 ghost use Rattle.flat_readings.specs.Points.{flatPoint};
@@ -97,7 +97,7 @@ pub extern "C" fn lampcygnet_agrees(word: u32, millionths: i64) -> bool
 pub extern "C" fn lampcygnet_reassemble(held: Partial, word: u32) -> FlatStep
     ensures { λ r. ⌜ r ≡ reassembled held word ⌝ }
 {
-    flat_groups::reassemble(held, word)
+    flat_reassembly::reassemble(held, word)
 }
 
 // Whether a sheet is legal, else its refusal with the offset of the field's tag.

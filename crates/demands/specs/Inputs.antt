@@ -31,16 +31,16 @@ use Rattle.encode.specs.declared.Encoded.{Encoded}
 use Rattle.chart.specs.Words.{wordRules, chartPoint, word-order}
 use Rattle.chart.specs.declared.ChartPoint.{ChartPoint}
 use Rattle.chart.specs.declared.Charted.{Charted}
-use Rattle.groups.specs.declared.Answer.{Answer}
-use Rattle.groups.specs.declared.Group.{Group}
-use Rattle.groups.specs.Take.{takeOf}
-use Rattle.auxiliary.specs.declared.PartIn.{PartIn}
-use Rattle.auxiliary.specs.declared.Reassembler.{Reassembler}
-use Rattle.auxiliary.specs.declared.WordAnswer.{WordAnswer}
-use Rattle.auxiliary.specs.Parts.{partIn}
-use Rattle.auxiliary.specs.Step.{takeWord}
-use Rattle.auxiliary.specs.Step as auxiliary
-use Rattle.auxiliary.specs.Carries.{refusals}
+use Rattle.reassembly_parts.specs.declared.Answer.{Answer}
+use Rattle.reassembly_parts.specs.declared.Group.{Group}
+use Rattle.reassembly_parts.specs.Take.{takeOf}
+use Rattle.reassembly.specs.declared.PartIn.{PartIn}
+use Rattle.reassembly.specs.declared.Reassembler.{Reassembler}
+use Rattle.reassembly.specs.declared.WordAnswer.{WordAnswer}
+use Rattle.reassembly.specs.Parts.{partIn}
+use Rattle.reassembly.specs.Step.{takeWord}
+use Rattle.reassembly.specs.Step as reassembly
+use Rattle.reassembly.specs.Carries.{refusals}
 use Rattle.contents.specs.declared.WordIn.{WordIn}
 use Rattle.contents.specs.declared.FigureIn.{FigureIn}
 use Rattle.contents.specs.Contents.{wordIn, figureIn}
@@ -296,12 +296,12 @@ inside-numbers run f p ms e = nine-to-twelve (numberOf f) ms (subst (Bounded 2 0
 part-numbers : (held : Reassembler) (w : ℕ) → Refusing (1 ∷ 2 ∷ 3 ∷ 4 ∷ 14 ∷ []) (ofAnswer (takeWord held w .answer))
 part-numbers held w = by (partIn w) refl
   where
-    taken : (a : Answer) → Refusing (1 ∷ 2 ∷ 3 ∷ 4 ∷ 14 ∷ []) (ofAnswer (auxiliary.answerOf a))
+    taken : (a : Answer) → Refusing (1 ∷ 2 ∷ 3 ∷ 4 ∷ 14 ∷ []) (ofAnswer (reassembly.answerOf a))
     taken Answer.Incomplete = tt
     taken (Answer.Complete g) = tt
     taken Answer.OutOfSequence = refl
 
-    by : (x : PartIn) → partIn w ≡ x → Refusing (1 ∷ 2 ∷ 3 ∷ 4 ∷ 14 ∷ []) (ofAnswer (auxiliary.stepOf held x .answer))
+    by : (x : PartIn) → partIn w ≡ x → Refusing (1 ∷ 2 ∷ 3 ∷ 4 ∷ 14 ∷ []) (ofAnswer (reassembly.stepOf held x .answer))
     by (PartIn.Carried p) e = taken (takeOf (held .«group_c») p .answer)
     by (PartIn.Refused f) e = four-in-a-row 1 (numberOf f) (14 ∷ []) (number-bounds f .0) (refusals document01 w f e)
 

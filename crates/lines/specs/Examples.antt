@@ -9,7 +9,7 @@ use Rattle.rounding.specs.Rounding.{roundEven}
 use Rattle.labels.specs.Table.{rowOf}
 use Rattle.quantities.specs.Nearest.{lineNearest, nearestCount, millionthsOf}
 use Rattle.text.specs.Ascii.{ascii}
-use Rattle.text.specs.Digits.{decimal}
+use Rattle.numerals.specs.Digits.{decimal}
 use Rattle.verdicts.specs.Verdicts.{verdictOf}
 use Rattle.verdicts.specs.declared.Previous.{Previous}
 use Rattle.lines.specs.Lines.{wordLine, verdictLine, totalLine}

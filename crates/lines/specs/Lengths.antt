@@ -30,8 +30,8 @@ use Rattle.quantities.specs.Nearest.{millionthsOf}
 use Rattle.quantities.specs.Scale.{scaleOf}
 use Rattle.quantities.specs.declared.Quantity.{Quantity}
 use Rattle.text.specs.Ascii.{ascii}
-use Rattle.text.specs.Digits.{decimal, fixed, sign}
-use Rattle.text.specs.Theorems.{decimal-length, fixed-length}
+use Rattle.numerals.specs.Digits.{decimal, fixed, sign}
+use Rattle.numerals.specs.Theorems.{decimal-length, fixed-length}
 use Rattle.columns.specs.Columns.{wholeFigure, signedFigure, statusColumns, partColumns, columnsOf}
 use Rattle.columns.specs.declared.Figure.{Figure}
 use Rattle.columns.specs.declared.Columns.{Columns}

@@ -9,7 +9,7 @@ use Rattle.labels.specs.Label.{labelOf}
 use Rattle.decode.specs.Decode.{decodeOf}
 use Rattle.decode.specs.declared.Decoded.{Decoded}
 use Rattle.text.specs.Ascii.{ascii}
-use Rattle.text.specs.Digits.{octal3, decimal, fixed, sign}
+use Rattle.numerals.specs.Digits.{octal3, decimal, fixed, sign}
 use Rattle.columns.specs.Columns.{columnsOf}
 use Rattle.columns.specs.declared.Mark.{Mark}
 use Rattle.columns.specs.declared.Figure.{Figure}

@@ -7,7 +7,7 @@ use lib.IntN.{ℤ, pos, negsuc}
 use Rattle.bits.specs.Fields.{bits}
 use Rattle.records.specs.declared.Kind.{Kind}
 use Rattle.decode.specs.Rules.{bodyOf}
-use Rattle.text.specs.Digits.{signedFixed}
+use Rattle.numerals.specs.Digits.{signedFixed}
 use Rattle.columns.specs.Columns.{signedFigure, partColumns, columnsOf}
 use Rattle.lines.specs.Lines.{figureText}
 

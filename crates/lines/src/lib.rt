@@ -29,7 +29,7 @@ fn put_mark(out: &mut [u8], at: usize, mark: Mark) -> usize
 {
     match mark {
         Mark::Status(status) => put_status(out, at, status),
-        Mark::Part(part) => text::put_named(out, at, b"part", part as u64),
+        Mark::Part(part) => numerals::put_named(out, at, b"part", part as u64),
     }
 }
 
@@ -42,7 +42,7 @@ fn put_figure(out: &mut [u8], at: usize, figure: Figure) -> usize
             negative,
             places,
             size,
-        } => text::put_signed(out, at, negative, places, size),
+        } => numerals::put_signed(out, at, negative, places, size),
         Figure::Absent => text::put_byte(out, at, 45),
     }
 }
@@ -51,9 +51,9 @@ fn put_figure(out: &mut [u8], at: usize, figure: Figure) -> usize
 fn put_heading(out: &mut [u8], at: usize, label: u32, source: u8) -> usize
     ensures { λ r. ⌜ Writes (now (out .entry)) at (heading label source) (now (out .exit)) r ⌝ }
 {
-    let first = text::put_octal3(out, at, label);
+    let first = numerals::put_octal3(out, at, label);
     let second = text::put_byte(out, first, 32);
-    let third = text::put_decimal(out, second, source as u64);
+    let third = numerals::put_decimal(out, second, source as u64);
     text::put_byte(out, third, 32)
 }
 
@@ -81,7 +81,7 @@ fn put_record_line(out: &mut [u8], at: usize, label: u32, source: u8, columns: C
 fn put_refused_line(out: &mut [u8], at: usize, refusal: Refusal) -> usize
     ensures { λ r. ⌜ Writes (now (out .entry)) at (refusedLine refusal) (now (out .exit)) r ⌝ }
 {
-    let end = text::put_named(out, at, b"refused ", refusals::number(refusal) as u64);
+    let end = numerals::put_named(out, at, b"refused ", refusals::number(refusal) as u64);
     text::put_byte(out, end, 10)
 }
 
@@ -127,8 +127,8 @@ pub fn put_figure_line(
 pub fn put_total_line(out: &mut [u8], at: usize, words: u64, refused: u64) -> usize
     ensures { λ r. ⌜ Writes (now (out .entry)) at (totalLine words refused) (now (out .exit)) r ⌝ }
 {
-    let middle = text::put_named(out, at, b"words ", words);
-    let end = text::put_named(out, middle, b" refused ", refused);
+    let middle = numerals::put_named(out, at, b"words ", words);
+    let end = numerals::put_named(out, middle, b" refused ", refused);
     text::put_byte(out, end, 10)
 }
 
@@ -136,7 +136,7 @@ pub fn put_total_line(out: &mut [u8], at: usize, words: u64, refused: u64) -> us
 pub fn put_refusal_line(out: &mut [u8], at: usize, refusal: Refusal, place: usize) -> usize
     ensures { λ r. ⌜ Writes (now (out .entry)) at (refusalLine refusal place) (now (out .exit)) r ⌝ }
 {
-    let middle = text::put_named(out, at, b"sheet refused ", refusals::number(refusal) as u64);
-    let end = text::put_named(out, middle, b" at ", place as u64);
+    let middle = numerals::put_named(out, at, b"sheet refused ", refusals::number(refusal) as u64);
+    let end = numerals::put_named(out, middle, b" at ", place as u64);
     text::put_byte(out, end, 10)
 }

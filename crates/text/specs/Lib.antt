@@ -1,5 +1,2 @@
 pub mod Ascii
-pub mod Digits
 pub mod Writing
-pub mod Theorems
-mod Examples

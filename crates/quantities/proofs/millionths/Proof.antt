@@ -1,5 +1,6 @@
 -- `quantities::millionths`: a count of 16 bits times a sound scale's numerator is small, and so is what it is rounded to.
 use mathlib.Core.Path.{_≡_, ap, subst⁻¹, _∙_}
+use mathlib.Core.Bool.{Bool}
 use Prim.Native.Nat.{ℕ, _*_, _≤_, _^_}
 use native.Mathlib.Omega.{arith}
 use borrow.Author.Needs.{needs}
@@ -10,6 +11,8 @@ use mir.Facts.{toZ-ofZ, sfits-widen}
 use Rattle.quantities.specs.declared.Quantity.{Quantity}
 use Rattle.quantities.specs.declared.Scale.{Scale}
 use Rattle.rounding.specs.Laws.{round-at-most}
+use Rattle.rounding.specs.Parts.{isNegative, signed}
+use Rattle.rounding.specs.Rounding.{roundEven}
 use Rattle.quantities.proofs.Products.{count-product}
 use Rattle.quantities.proofs.Signed.{widened, count-size}
 use Rattle.quantities.specs.Scale.{Sound, sound, scaleOf}
@@ -52,12 +55,15 @@ with-sign-requires c κs =
     omega
     (arith, c .before .round-half-even .ensures, round-at-most (size .result * scale .result .numerator) (scale .result .denominator), product (scale .result) (start .args .quantity) (scale .ensures) (start .args .count) (start .fits .count) (size .result) (size .ensures))
 
-returns : tie.Need-returns
+printed : (q : Quantity) {z y : ℤ} {s : Scale} {m r : ℕ} {n : Bool} {w : ℤ} → y ≡ z → s ≡ scaleOf q → m ≡ natAbs y → r ≡ roundEven (m * s .numerator) (s .denominator) → n ≡ isNegative y → w ≡ signed n r → w ≡ millionthsOf q z
 unfolding millionthsOf
+printed q e scale size rounded sign number = cc
+
+returns : tie.Need-returns
 returns c =
     let start = c .before .before .before .before .before in
-    cc
-    (toZ-ofZ {w = w64} {z = c .with-sign .result} (search needs), widened (start .args .count) (start .fits .count))
+    toZ-ofZ {w = w64} {z = c .with-sign .result} (search needs)
+    ∙ printed (start .args .quantity) (widened (start .args .count) (start .fits .count)) (c .before .before .before .before .scale-of .ensures) (c .before .before .before .magnitude .ensures) (c .before .before .round-half-even .ensures) (c .before .is-negative .ensures) (c .with-sign .ensures)
 
 pub millionths-spec : {M : Type 1} → statement M
 millionths-spec =

@@ -1,0 +1,128 @@
+-- Words as numbers: a word gives numbers that are written to that word, and numbers that are written to a word are its own. The order of the
+-- refusals of numbers: 2, then 4, then 6.
+-- Assumes nothing.
+use mathlib.Core.Path.{_≡_, refl, sym, ap, ap₂, _∙_}
+use mathlib.Core.Bool.{Bool, true, false, cond, _&&_}
+use Prim.Native.Nat.{ℕ, _^_, _≤_, _<_}
+use native.Mathlib.Omega.{arith}
+use borrow.Author.Tests.{le-leb, leb-true}
+use lib.Dec.{leb}
+use Rattle.bits.specs.Laws.{both-true}
+use Rattle.refusals.specs.Numbers.{numberOf, number-bounds}
+use Rattle.records.specs.declared.Kind.{Kind}
+use Rattle.records.specs.declared.Record.{Record}
+use Rattle.refusals.specs.declared.Refusal.{Refusal}
+use Rattle.labels.specs.Assignment.{document01}
+use Rattle.labels.specs.declared.Lookup.{Lookup}
+use Rattle.decode.specs.Decode.{decodeOf}
+use Rattle.decode.specs.declared.Decoded.{Decoded}
+use Rattle.encode.specs.Encode.{codesListed, valuesLegal, encodeOf, codes-broken, values-broken}
+use Rattle.encode.specs.declared.Encoded.{Encoded}
+use Rattle.roundtrip.specs.RoundTrip.{decode-encode, encode-decode, written}
+use Rattle.flat_records.specs.Numbers.{flatOf}
+use Rattle.flat_records.specs.declared.FlatRecord.{FlatRecord}
+use Rattle.flat_fields.specs.Fields.{kindAt, listed, most, fieldsOf, bodyFrom, recordAs, recordOfKind, recordFound, recordFrom}
+use Rattle.flat_fields.specs.Fields.{codes-broken as numbers-broken, value-broken, all-kept}
+use Rattle.flat_words.specs.Words.{flatWord, encoded, encodeFlat}
+use Rattle.flat_words.specs.declared.FlatWord.{FlatWord}
+use Rattle.flat_laws.specs.Back.{record-back, legal-bounded}
+use Rattle.flat_laws.specs.Forth.{kept, record-forth}
+
+-- ---- there and back
+
+-- the numbers of an accepted word are written to that word
+pub word-back : (w : ℕ) (r : Record) → w < 2 ^ 32 → decodeOf w ≡ Decoded.Accepted r → encodeFlat (flatOf (decodeOf w)) ≡ record { refusal = 0; word = w }
+word-back w r h e =
+    let back = decode-encode document01 w r h e in
+    let legal = written document01 r w back .0 in
+    ap (λ (d : Decoded). encodeFlat (flatOf d)) e
+    ∙ ap (λ (d : Decoded). flatWord (encoded d)) (record-back r (leb-true (r .source) 3 (legal .source)) (legal-bounded (r .body) (legal .values)))
+    ∙ ap flatWord back
+
+-- no refusal has the number 0
+pub no-number : (x : Refusal) → numberOf x ≡ 0 → ⊥
+no-number x e = omega (arith, number-bounds x .0)
+
+is-word : (x : Encoded) (w : ℕ) → flatWord x ≡ record { refusal = 0; word = w } → x ≡ Encoded.Word w
+is-word (Encoded.Word v) w e = ap Encoded.Word (ap (λ (y : FlatWord). y .word) e)
+is-word (Encoded.Refused x) w e = absurd (no-number x (ap (λ (y : FlatWord). y .refusal) e))
+
+numbers-forth : (f : FlatRecord) (w : ℕ) (d : Decoded) → recordFrom f ≡ d → encoded d ≡ Encoded.Word w → (w < 2 ^ 32) × (flatOf (decodeOf w) ≡ kept f)
+numbers-forth f w (Decoded.Accepted r) q e =
+    let forth = encode-decode document01 r w e in
+    (forth .0, ap flatOf (forth .1) ∙ record-forth f r q)
+numbers-forth f w (Decoded.Refused x) q e = let z : _≡_ {A = ℕ} 0 1 = cc in absurd (omega arith)
+
+-- numbers that are written to a word are the word's own, in the fields that are looked at
+pub numbers-back : (f : FlatRecord) (w : ℕ) → encodeFlat f ≡ record { refusal = 0; word = w } → (w < 2 ^ 32) × (flatOf (decodeOf w) ≡ kept f)
+numbers-back f w e = numbers-forth f w (recordFrom f) refl (is-word (encoded (recordFrom f)) w e)
+
+-- ---- the order of the refusals
+
+abbrev refusedBy : Refusal → FlatWord
+refusedBy x = record { refusal = numberOf x; word = 0 }
+
+-- the source and every code of the kind, a frequency's status among them, are in their lists
+abbrev pub allListed : Kind → FlatRecord → Bool
+allListed k f = (leb (f .source) 3 && listed k f) && codesListed (bodyFrom k (fieldsOf f))
+
+-- every other field is legal
+abbrev pub allLegal : Kind → FlatRecord → Bool
+allLegal k f = leb (f .value) (most k) && valuesLegal (bodyFrom k (fieldsOf f))
+
+-- 2: no kind has the number
+pub no-kind : (f : FlatRecord) → kindAt (f .kind) ≡ Lookup.Unknown → encodeFlat f ≡ refusedBy Refusal.Label
+no-kind f e = ap (λ (l : Lookup). flatWord (encoded (recordFound l f))) e
+
+-- kinds whose value has fewer than 32 bits have a code for every status
+pub short-coded : (k : Kind) (f : FlatRecord) → f .value < 2 ^ 32 → leb (f .value) (most k) ≡ false → codesListed (bodyFrom k (fieldsOf f)) ≡ true
+short-coded Kind.VorAzimuth f h e = refl
+short-coded Kind.VorFrequency f h e = absurd (let z : false ≡ true = sym e ∙ le-leb (f .value) 4294967295 (omega arith) in let y : _≡_ {A = ℕ} 0 1 = cc in omega arith)
+short-coded Kind.IlsCourse f h e = refl
+short-coded Kind.IlsGlide f h e = refl
+short-coded Kind.IlsFrequency f h e = absurd (let z : false ≡ true = sym e ∙ le-leb (f .value) 4294967295 (omega arith) in let y : _≡_ {A = ℕ} 0 1 = cc in omega arith)
+short-coded Kind.MlsFrequency f h e = absurd (let z : false ≡ true = sym e ∙ le-leb (f .value) 4294967295 (omega arith) in let y : _≡_ {A = ℕ} 0 1 = cc in omega arith)
+short-coded Kind.MlsAzimuthDeviation f h e = refl
+short-coded Kind.MlsGlideDeviation f h e = refl
+short-coded Kind.SelectedAzimuth f h e = refl
+short-coded Kind.GreatestGlideAngle f h e = refl
+short-coded Kind.SelectedGlideAngle f h e = refl
+short-coded Kind.Part1 f h e = refl
+short-coded Kind.Part2 f h e = refl
+short-coded Kind.Part3 f h e = refl
+short-coded Kind.Part4 f h e = refl
+
+module _ (f : FlatRecord) (k : Kind) (known : kindAt (f .kind) ≡ Lookup.Known k) (narrow : f .value < 2 ^ 32) where
+  -- what the numbers of a known kind are written to
+  as-kind : encodeFlat f ≡ flatWord (encoded (recordOfKind k f))
+  as-kind = ap (λ (l : Lookup). flatWord (encoded (recordFound l f))) known
+
+  by-tests : (s c v : Bool) → (leb (f .source) 3 && listed k f) ≡ s → codesListed (bodyFrom k (fieldsOf f)) ≡ c → leb (f .value) (most k) ≡ v
+      → (s && c) ≡ false → encodeFlat f ≡ refusedBy Refusal.Code
+  by-tests false c v es ec ev e = as-kind ∙ ap (λ (d : Decoded). flatWord (encoded d)) (numbers-broken k f es)
+  by-tests true true v es ec ev e = let z : _≡_ {A = ℕ} 0 1 = cc in absurd (omega arith)
+  by-tests true false true es ec ev e =
+      as-kind
+      ∙ ap (λ (d : Decoded). flatWord (encoded d)) (all-kept k f es ev)
+      ∙ ap flatWord (codes-broken document01 (recordAs k f) (ap₂ _&&_ (both-true (leb (f .source) 3) (listed k f) es .0) ec))
+  by-tests true false false es ec ev e = absurd (let z : true ≡ false = sym (short-coded k f narrow ev) ∙ ec in let y : _≡_ {A = ℕ} 0 1 = cc in omega arith)
+
+  -- 4: a code or the source is outside its list, whatever the other fields are
+  pub code-first : allListed k f ≡ false → encodeFlat f ≡ refusedBy Refusal.Code
+  code-first e = by-tests (leb (f .source) 3 && listed k f) (codesListed (bodyFrom k (fieldsOf f))) (leb (f .value) (most k)) refl refl refl e
+
+  by-values : (v l : Bool) → leb (f .value) (most k) ≡ v → valuesLegal (bodyFrom k (fieldsOf f)) ≡ l → allListed k f ≡ true → (v && l) ≡ false
+      → encodeFlat f ≡ refusedBy Refusal.Value
+  by-values false l ev el c e =
+      as-kind
+      ∙ ap (λ (d : Decoded). flatWord (encoded d)) (value-broken k f (both-true (leb (f .source) 3 && listed k f) (codesListed (bodyFrom k (fieldsOf f))) c .0) ev)
+  by-values true true ev el c e = let z : _≡_ {A = ℕ} 0 1 = cc in absurd (omega arith)
+  by-values true false ev el c e =
+      let b = both-true (leb (f .source) 3 && listed k f) (codesListed (bodyFrom k (fieldsOf f))) c in
+      as-kind
+      ∙ ap (λ (d : Decoded). flatWord (encoded d)) (all-kept k f (b .0) ev)
+      ∙ ap flatWord (values-broken document01 (recordAs k f) (ap₂ _&&_ (both-true (leb (f .source) 3) (listed k f) (b .0) .0) (b .1)) el)
+
+  -- 6: every code and the source are listed, and another field is not legal
+  pub value-second : allListed k f ≡ true → allLegal k f ≡ false → encodeFlat f ≡ refusedBy Refusal.Value
+  value-second c e = by-values (leb (f .value) (most k)) (valuesLegal (bodyFrom k (fieldsOf f))) refl refl c e

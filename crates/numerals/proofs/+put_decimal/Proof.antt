@@ -1,0 +1,59 @@
+-- A number below a thousand is a small one, and any other is a number with three digits behind it.
+-- Assumes nothing.
+use mathlib.Core.Path.{sym}
+use native.Mathlib.Omega.{arith}
+use Rattle.text.specs.Writing.{joined, named}
+use Rattle.numerals.specs.Theorems.{decimal-thousands}
+use borrow.Author.Needs.{needs}
+use Prim.Native.Nat.{ℕ, _<_}
+use borrow.Fn.Kinds.{In}
+use borrow.Fn.PlainCycle.{Measures, is, falls, and}
+use Rattle.numerals.proofs.put_decimal.Reads as put-decimal
+use Rattle.numerals.proofs.put_decimal.Kinds as put-decimal-kinds
+use Rattle.numerals.proofs.+put_decimal.Lts-put_decimal as lts
+use Rattle.numerals.proofs.put_small.Reads as put-small
+use Rattle.numerals.proofs.put_three.Reads as put-three
+use Rattle.numerals.proofs.+put_decimal.{statement}
+use Rattle.numerals.proofs.+put_decimal.Tie.{close}
+
+-- a number falls at each call
+abbrev μ : Measures 1 put-decimal-kinds.ps ℕ
+μ κs a = a .1 .1 .0
+
+abbrev given : ℕ → In 1 put-decimal-kinds.ps
+given t = and 1 put-decimal-kinds.ps (is 1 put-decimal-kinds.ps μ t) put-decimal.Pre
+
+abbrev below : ℕ → In 1 put-decimal-kinds.ps
+below t = and 1 put-decimal-kinds.ps (falls 1 put-decimal-kinds.ps _<_ μ t) put-decimal.Pre
+
+abbrev claims : ℕ → lts.Claims
+claims t = (put-small.Asked, put-small.Learnt, below t, put-decimal.Post, put-three.Asked, put-three.Learnt)
+
+module _ (t : ℕ) where
+  put-small-requires : lts.Need-put-small-requires (claims t) (given t) put-decimal.Post
+  put-small-requires c κs = search needs
+
+  same-length : lts.Need-same-length (claims t) (given t) put-decimal.Post
+  same-length c = search needs
+
+  returns : lts.Need-returns (claims t) (given t) put-decimal.Post
+  returns c = c .before .before .put-small .ensures
+
+  put-decimal-requires : lts.Need-put-decimal-requires (claims t) (given t) put-decimal.Post
+  put-decimal-requires c κs = (omega arith, tt)
+
+  put-three-requires : lts.Need-put-three-requires (claims t) (given t) put-decimal.Post
+  put-three-requires c κs = tt
+
+  same-length-2 : lts.Need-same-length-2 (claims t) (given t) put-decimal.Post
+  same-length-2 c = search needs
+
+  returns-2 : lts.Need-returns-2 (claims t) (given t) put-decimal.Post
+  returns-2 c =
+      named (joined (c .before .before .before .before .before .before .put-decimal .ensures) (c .before .before .put-three .ensures))
+      (sym (decimal-thousands _ (c .before .before .before .before .before .before .before .before .if1 .left)))
+
+pub +put-decimal-spec : {M : Type 1} → statement M
++put-decimal-spec =
+    close μ
+    (λ t. lts.spec (claims t) (given t) put-decimal.Post (put-small-requires t) (same-length t) (returns t) (put-decimal-requires t) (put-three-requires t) (same-length-2 t) (returns-2 t))
