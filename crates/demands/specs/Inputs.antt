@@ -64,6 +64,7 @@ use Rattle.totals.specs.declared.Totals.{Totals}
 use Rattle.totals.specs.Totals.{totalsOf}
 use Rattle.writer.specs.declared.Written.{Written}
 use Rattle.writer.specs.Write.{Write, answerOf, writeOf, groupOf}
+use Rattle.fields.specs.Start.{fieldBytes}
 use Rattle.writer.specs.Write as write
 use Rattle.listing.specs.declared.Listed.{Listed}
 use Rattle.listing.specs.Listing.{textOf, listedOf, bufferOf}
@@ -355,7 +356,7 @@ group-numbers out place run = by (insideOf run) refl
 
 group-kept : (x : Scan) (out : List ℕ) (place : ℕ) (run : List ℕ)
     → Untouched (ofWritten (write.unlessRefused x out (writeOf out place FieldKind.Group run) .answer)) out (write.unlessRefused x out (writeOf out place FieldKind.Group run) .buffer)
-group-kept (Fields fs) out place run = answer-untouched (answerOf (length out) place (length run)) out place (write.fieldBytes FieldKind.Group run)
+group-kept (Fields fs) out place run = answer-untouched (answerOf (length out) place (length run)) out place (fieldBytes FieldKind.Group run)
 group-kept (Refused f p) out place run = refl
 
 -- a field of a list, or its end, is no refusal
@@ -407,7 +408,7 @@ demand1 = record {
   note = λ s place. noted (sheetOf s) place (scan-numbers s);
   totals = λ s. sheet-numbers (sheetOf s) (scan-numbers s) .1;
   written = λ out place k c. answer-numbers (length out) place (length c);
-  written-untouched = λ out place k c. answer-untouched (answerOf (length out) place (length c)) out place (write.fieldBytes k c);
+  written-untouched = λ out place k c. answer-untouched (answerOf (length out) place (length c)) out place (fieldBytes k c);
   group = group-numbers;
   group-untouched = λ out place run. group-kept (insideOf run) out place run;
   listed = λ s out. listed-numbers (textOf s) out .0;

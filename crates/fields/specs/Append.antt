@@ -16,7 +16,7 @@ use Rattle.fields.specs.declared.TagLookup.{TagLookup}
 use Rattle.fields.specs.declared.Start.{Start}
 use Rattle.fields.specs.Start.{kindOfTag, lengthAllowed, depthAllowed, judged, startOf}
 use Rattle.fields.specs.Run.{Field, Scan, Fields, Refused, _andThen_, inside, step, runOf}
-use Rattle.fields.specs.Laws.{stands, run-step}
+use Rattle.fields.specs.Laws.{stands, end-empty, run-step}
 use Rattle.fields.specs.AndThen.{nothing-first, regroup}
 
 -- a scan without a refusal
@@ -54,23 +54,6 @@ start-more d (t ∷ h ∷ []) b k n e = let z : _≡_ {A = ℕ} 0 1 = cc in absu
 start-more d (t ∷ h ∷ l ∷ bs) b k n e =
     ap (λ (left : ℕ). judged (kindOfTag t) (h * 256 + l) left d) (length-append bs b)
     ∙ judged-more (kindOfTag t) (h * 256 + l) (length bs) (length b) d k n e
-
--- only an empty run is at its end
-judged-no-end : (t : TagLookup) (len left d : ℕ) → judged t len left d ≡ Start.End → ⊥
-judged-no-end TagLookup.Unknown len left d e = let z : _≡_ {A = ℕ} 0 1 = cc in omega arith
-judged-no-end (TagLookup.Known k) len left d e = by (ltb left len) (lengthAllowed k len) (depthAllowed k d) e
-  where
-    by : (a b c : Bool) → cond a (Start.Refused Refusal.Truncated) (cond b (cond c (Start.Field k len) (Start.Refused Refusal.Depth)) (Start.Refused Refusal.Length)) ≡ Start.End → ⊥
-    by true b c e = let z : _≡_ {A = ℕ} 0 1 = cc in omega arith
-    by false false c e = let z : _≡_ {A = ℕ} 0 1 = cc in omega arith
-    by false true false e = let z : _≡_ {A = ℕ} 0 1 = cc in omega arith
-    by false true true e = let z : _≡_ {A = ℕ} 0 1 = cc in omega arith
-
-pub end-empty : (d : ℕ) (bs : List ℕ) → startOf d bs ≡ Start.End → bs ≡ []
-end-empty d [] e = refl
-end-empty d (t ∷ []) e = let z : _≡_ {A = ℕ} 0 1 = cc in absurd (omega arith)
-end-empty d (t ∷ h ∷ []) e = let z : _≡_ {A = ℕ} 0 1 = cc in absurd (omega arith)
-end-empty d (t ∷ h ∷ l ∷ bs) e = absurd (judged-no-end (kindOfTag t) (h * 256 + l) (length bs) d e)
 
 -- ---- one run after another
 

@@ -1,8 +1,8 @@
 -- A legal run of bytes is exactly what a list of fields writes: tag, length high byte first, content, and in a group the bytes of the fields it holds.
 -- Assumes nothing.
 use mathlib.Core.Path.{_≡_, refl, sym, ap, ap₂, subst, _∙_}
-use mathlib.Core.Bool.{Bool, true, false, cond}
-use mathlib.Core.List.{List, [], _∷_, _++_}
+use mathlib.Core.Bool.{Bool, true, false, cond, _||_}
+use mathlib.Core.List.{List, [], _∷_, _++_, append-nil}
 use Prim.Native.Nat.{ℕ, zero, suc, _+_, _*_, _/_, _%_, _≤_, _<_}
 use native.Mathlib.Nat.{div-add-mod', le-refl}
 use native.Mathlib.Omega.{arith}
@@ -14,10 +14,11 @@ use Rattle.refusals.specs.declared.Refusal.{Refusal}
 use Rattle.fields.specs.declared.FieldKind.{FieldKind}
 use Rattle.fields.specs.declared.TagLookup.{TagLookup}
 use Rattle.fields.specs.declared.Start.{Start}
-use Rattle.fields.specs.Start.{tagOf, kindOfTag, lengthAllowed, depthAllowed, judged, startOf}
+use Rattle.fields.specs.Start.{tagOf, isLeaf, fieldBytes, kindOfTag, lengthAllowed, depthAllowed, judged, startOf}
 use Rattle.fields.specs.Run.{Field, Scan, Fields, Refused, _andThen_, inside, step, scan, runOf, sheetOf}
-use Rattle.fields.specs.Laws.{run-step}
-use Rattle.fields.specs.Limits.{StartView, at-end, header, start-view, longer, not-longer}
+use Rattle.fields.specs.Laws.{StartView, header, start-view, end-empty, run-step}
+use Rattle.fields.specs.AndThen.{nothing-after}
+use Rattle.fields.specs.Limits.{longer, not-longer}
 
 -- ---- what is stated
 
@@ -27,14 +28,11 @@ pub data Trees : Type 0 where
   leaf : FieldKind → List ℕ → Trees → Trees
   group : Trees → Trees → Trees
 
--- a field's bytes
-abbrev pub written : FieldKind → List ℕ → List ℕ
-written k c = tagOf k ∷ length c / 256 ∷ length c % 256 ∷ c
-
+-- its bytes
 abbrev pub bytesOf : Trees → List ℕ
 bytesOf no-more = []
-bytesOf (leaf k c ts) = written k c ++ bytesOf ts
-bytesOf (group us ts) = written FieldKind.Group (bytesOf us) ++ bytesOf ts
+bytesOf (leaf k c ts) = fieldBytes k c ++ bytesOf ts
+bytesOf (group us ts) = fieldBytes FieldKind.Group (bytesOf us) ++ bytesOf ts
 
 -- the fields in the order of their tags, with place and depth
 abbrev pub fieldsOf : (depth place : ℕ) → Trees → List Field
@@ -48,13 +46,6 @@ fieldsOf d p (group us ts) =
 pub data Bytes : List ℕ → Type 0 where
   no-byte : Bytes []
   byte : {b : ℕ} {bs : List ℕ} → b < 256 → Bytes bs → Bytes (b ∷ bs)
-
--- whether a field of this kind holds no others
-abbrev pub isLeaf : FieldKind → Bool
-isLeaf FieldKind.Word = true
-isLeaf FieldKind.Figure = true
-isLeaf FieldKind.Note = true
-isLeaf FieldKind.Group = false
 
 -- what may be written at a depth: lengths that two bytes hold, four bytes in a word and nine in a figure, and groups at depths below 4
 pub data Allowed : ℕ → Trees → Type 0 where
@@ -75,32 +66,35 @@ judged-field : (k : FieldKind) (len left d : ℕ) → len ≤ left → lengthAll
 judged-field k len left d room long deep = rw (le-ltb _ _ room, long, deep)
 
 module _ (d p : ℕ) (k : FieldKind) (c rest : List ℕ) (long : lengthAllowed k (length c) ≡ true) (deep : depthAllowed k d ≡ true) where
-  start-written : startOf d (written k c ++ rest) ≡ Start.Field k (length c)
+  start-written : startOf d (fieldBytes k c ++ rest) ≡ Start.Field k (length c)
   start-written =
       let all : length (c ++ rest) ≡ length c + length rest = length-append c rest in
       ap₂ (λ (t : TagLookup) (n : ℕ). judged t n (length (c ++ rest)) d) (known-tag k) (div-add-mod' (length c) 256)
       ∙ judged-field k (length c) (length (c ++ rest)) d (omega arith) long deep
 
   -- Its run is the field, its inside, then the rest.
-  pub run-written : runOf d p (written k c ++ rest)
+  pub run-written : runOf d p (fieldBytes k c ++ rest)
       ≡ Fields (record { place = p; depth = d; kind = k; content = c } ∷ []) andThen inside runOf k d p c andThen runOf d (p + 3 + length c) rest
   run-written =
-      run-step d p (written k c ++ rest)
-      ∙ ap (step runOf d p (written k c ++ rest)) start-written
+      run-step d p (fieldBytes k c ++ rest)
+      ∙ ap (step runOf d p (fieldBytes k c ++ rest)) start-written
       ∙ ap₂ (λ (x y : List ℕ). Fields (record { place = p; depth = d; kind = k; content = x } ∷ []) andThen inside runOf k d p x andThen runOf d (p + 3 + length c) y)
-      (take-append-seam c rest) (sym (drop-drop (length c) 3 (written k c ++ rest)) ∙ drop-append-seam c rest)
+      (take-append-seam c rest) (sym (drop-drop (length c) 3 (fieldBytes k c ++ rest)) ∙ drop-append-seam c rest)
+
+-- one field alone: the field, then its inside
+pub run-one : (d p : ℕ) (k : FieldKind) (c : List ℕ) → lengthAllowed k (length c) ≡ true → depthAllowed k d ≡ true
+    → runOf d p (fieldBytes k c) ≡ Fields (record { place = p; depth = d; kind = k; content = c } ∷ []) andThen inside runOf k d p c
+run-one d p k c long deep =
+    ap (runOf d p) (sym (append-nil (fieldBytes k c)))
+    ∙ run-written d p k c [] long deep
+    ∙ ap (λ (r : Scan). Fields (record { place = p; depth = d; kind = k; content = c } ∷ []) andThen inside runOf k d p c andThen r) (run-step d (p + 3 + length c) [])
+    ∙ ap (λ (r : Scan). Fields (record { place = p; depth = d; kind = k; content = c } ∷ []) andThen r) (nothing-after (inside runOf k d p c))
 
 leaf-inside : (k : FieldKind) (d p : ℕ) (c : List ℕ) → isLeaf k ≡ true → inside runOf k d p c ≡ Fields []
-leaf-inside FieldKind.Word d p c h = refl
-leaf-inside FieldKind.Figure d p c h = refl
-leaf-inside FieldKind.Note d p c h = refl
-leaf-inside FieldKind.Group d p c h = let z : _≡_ {A = ℕ} 0 1 = cc in absurd (omega arith)
+leaf-inside k d p c plain = ap (λ (b : Bool). cond b (Fields []) (runOf (suc d) (p + 3) c)) plain
 
 leaf-deep : (k : FieldKind) (d : ℕ) → isLeaf k ≡ true → depthAllowed k d ≡ true
-leaf-deep FieldKind.Word d h = refl
-leaf-deep FieldKind.Figure d h = refl
-leaf-deep FieldKind.Note d h = refl
-leaf-deep FieldKind.Group d h = let z : _≡_ {A = ℕ} 0 1 = cc in absurd (omega arith)
+leaf-deep k d plain = ap (λ (b : Bool). b || ltb d 4) plain
 
 -- What is written is legal, and has the fields that were written.
 pub written-legal : (d p : ℕ) (ts : Trees) → Allowed d ts → runOf d p (bytesOf ts) ≡ Fields (fieldsOf d p ts)
@@ -119,7 +113,7 @@ bytes-append : {xs ys : List ℕ} → Bytes xs → Bytes ys → Bytes (xs ++ ys)
 bytes-append no-byte b = b
 bytes-append (byte h a) b = byte h (bytes-append a b)
 
-bytes-written : (k : FieldKind) (c rest : List ℕ) → length c < 65536 → Bytes c → Bytes rest → Bytes (written k c ++ rest)
+bytes-written : (k : FieldKind) (c rest : List ℕ) → length c < 65536 → Bytes c → Bytes rest → Bytes (fieldBytes k c ++ rest)
 bytes-written k c rest short b r =
     let high : length c / 256 < 256 = omega arith in
     let low : length c % 256 < 256 = omega arith in
@@ -167,7 +161,7 @@ tag-known t k e = by (eqb t 0x10) refl (eqb t 0x11) refl (eqb t 0x12) refl (eqb 
 record FirstField (d : ℕ) (k : FieldKind) (bs : List ℕ) : Type 0 where
   content : List ℕ
   rest : List ℕ
-  whole : bs ≡ written k content ++ rest
+  whole : bs ≡ fieldBytes k content ++ rest
   long : lengthAllowed k (length content) ≡ true
   deep : depthAllowed k d ≡ true
   short : length content < 65536
@@ -217,38 +211,35 @@ Reads m = (d p : ℕ) (bs : List ℕ) → length bs ≤ m → Bytes bs → (fs :
 module _ (d p : ℕ) (c rest : List ℕ) (fs : List Field) (short : length c < 65536) where
   read-leaf : (k : FieldKind) → isLeaf k ≡ true → lengthAllowed k (length c) ≡ true → Bytes c
       → (b : Both (record { place = p; depth = d; kind = k; content = c }) (inside runOf k d p c) (runOf d (p + 3 + length c) rest) fs)
-      → WrittenBy d (p + 3 + length c) rest (b .after) → WrittenBy d p (written k c ++ rest) fs
+      → WrittenBy d (p + 3 + length c) rest (b .after) → WrittenBy d p (fieldBytes k c ++ rest) fs
   read-leaf k plain long cb b w =
       let none : Fields [] ≡ Fields (b .inner) = sym (leaf-inside k d p c plain) ∙ b .insideLegal in
       let empty : [] ≡ b .inner = cc in
       record {
         trees = leaf k c (w .trees);
         allowed = leaf-allowed plain long short cb (w .allowed);
-        bytes = ap (λ (y : List ℕ). written k c ++ y) (w .bytes);
+        bytes = ap (λ (y : List ℕ). fieldBytes k c ++ y) (w .bytes);
         fields =
             ap₂ (λ (x y : List Field). record { place = p; depth = d; kind = k; content = c } ∷ (x ++ y)) empty (w .fields) ∙ sym (b .all);
       }
 
   read-group : depthAllowed FieldKind.Group d ≡ true
       → (b : Both (record { place = p; depth = d; kind = FieldKind.Group; content = c }) (runOf (suc d) (p + 3) c) (runOf d (p + 3 + length c) rest) fs)
-      → WrittenBy (suc d) (p + 3) c (b .inner) → WrittenBy d (p + 3 + length c) rest (b .after) → WrittenBy d p (written FieldKind.Group c ++ rest) fs
+      → WrittenBy (suc d) (p + 3) c (b .inner) → WrittenBy d (p + 3 + length c) rest (b .after) → WrittenBy d p (fieldBytes FieldKind.Group c ++ rest) fs
   read-group deep b u w =
       let same : length (bytesOf (u .trees)) ≡ length c = ap length (u .bytes) in
       record {
         trees = group (u .trees) (w .trees);
         allowed = group-allowed {us = u .trees} {ts = w .trees} (ltb-true d 4 deep) (omega arith) (u .allowed) (w .allowed);
-        bytes = ap₂ (λ (x y : List ℕ). written FieldKind.Group x ++ y) (u .bytes) (w .bytes);
+        bytes = ap₂ (λ (x y : List ℕ). fieldBytes FieldKind.Group x ++ y) (u .bytes) (w .bytes);
         fields =
             ap₂ (λ (x : List ℕ) (y : List Field). record { place = p; depth = d; kind = FieldKind.Group; content = x } ∷ (y ++ fieldsOf d (p + 3 + length x) (w .trees))) (u .bytes) (u .fields)
             ∙ ap (λ (z : List Field). record { place = p; depth = d; kind = FieldKind.Group; content = c } ∷ (b .inner ++ z)) (w .fields)
             ∙ sym (b .all);
       }
 
-end-empty : (d : ℕ) (bs : List ℕ) → StartView d bs Start.End → [] ≡ bs
-end-empty d bs at-end = refl
-
 reads-step : (m : ℕ) → Reads m → Reads (suc m)
-reads-step m shorter d p bs h b fs e = by (startOf d bs) (start-view d bs) (sym (run-step d p bs) ∙ e)
+reads-step m shorter d p bs h b fs e = by (startOf d bs) refl (start-view d bs) (sym (run-step d p bs) ∙ e)
   where
     field : (k : FieldKind) → FirstField d k bs → WrittenBy d p bs fs
     field k f =
@@ -262,17 +253,17 @@ reads-step m shorter d p bs h b fs e = by (startOf d bs) (start-view d bs) (sym 
       where
         of-kind : (k : FieldKind) (f : FirstField d k bs)
             → (parts : Both (record { place = p; depth = d; kind = k; content = f .content }) (inside runOf k d p (f .content)) (runOf d (p + 3 + length (f .content)) (f .rest)) fs)
-            → WrittenBy d (p + 3 + length (f .content)) (f .rest) (parts .after) → length (f .content) ≤ m → WrittenBy d p (written k (f .content) ++ f .rest) fs
+            → WrittenBy d (p + 3 + length (f .content)) (f .rest) (parts .after) → length (f .content) ≤ m → WrittenBy d p (fieldBytes k (f .content) ++ f .rest) fs
         of-kind FieldKind.Word f parts w h = read-leaf d p (f .content) (f .rest) fs (f .short) FieldKind.Word refl (f .long) (f .contentBytes) parts w
         of-kind FieldKind.Figure f parts w h = read-leaf d p (f .content) (f .rest) fs (f .short) FieldKind.Figure refl (f .long) (f .contentBytes) parts w
         of-kind FieldKind.Note f parts w h = read-leaf d p (f .content) (f .rest) fs (f .short) FieldKind.Note refl (f .long) (f .contentBytes) parts w
         of-kind FieldKind.Group f parts w h =
             read-group d p (f .content) (f .rest) fs (f .short) (f .deep) parts (shorter (suc d) (p + 3) (f .content) h (f .contentBytes) (parts .inner) (parts .insideLegal)) w
 
-    by : (s : Start) → StartView d bs s → step runOf d p bs s ≡ Fields fs → WrittenBy d p bs fs
-    by Start.End v e = record { trees = no-more; allowed = no-more-allowed; bytes = end-empty d bs v; fields = cc }
-    by (Start.Refused f) v e = let z : _≡_ {A = ℕ} 0 1 = cc in absurd (omega arith)
-    by (Start.Field k n) v e = field k (first-field d bs k n b v)
+    by : (s : Start) → startOf d bs ≡ s → StartView d bs s → step runOf d p bs s ≡ Fields fs → WrittenBy d p bs fs
+    by Start.End s v e = record { trees = no-more; allowed = no-more-allowed; bytes = sym (end-empty d bs s); fields = cc }
+    by (Start.Refused f) s v e = let z : _≡_ {A = ℕ} 0 1 = cc in absurd (omega arith)
+    by (Start.Field k n) s v e = field k (first-field d bs k n b v)
 
 reads : (m : ℕ) → Reads m
 reads zero d p [] h b fs e = record { trees = no-more; allowed = no-more-allowed; bytes = refl; fields = cc (sym (run-step d p []) ∙ e) }

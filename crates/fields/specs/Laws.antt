@@ -1,4 +1,4 @@
--- The laws of a run of bytes that others cite: what a field's start says, and one step without the number of steps.
+-- The laws of a run of bytes that others cite: what its start says, and one step without the number of steps.
 -- Assumes nothing.
 use mathlib.Core.Path.{_≡_, refl, sym, ap, ap₂, subst, _∙_}
 use mathlib.Core.Bool.{Bool, true, false, cond}
@@ -11,13 +11,40 @@ use native.Mathlib.Nat.{le-refl}
 use lib.ListN.{length, take, drop, length-drop}
 use lib.Seq.{length-take-le}
 use Rattle.refusals.specs.declared.Refusal.{Refusal}
+use Rattle.refusals.specs.Numbers.{numberOf}
 use Rattle.fields.specs.declared.FieldKind.{FieldKind}
 use Rattle.fields.specs.declared.TagLookup.{TagLookup}
 use Rattle.fields.specs.declared.Start.{Start}
 use Rattle.fields.specs.Start.{kindOfTag, lengthAllowed, depthAllowed, judged, startOf}
 use Rattle.fields.specs.Run.{Field, Scan, Fields, Refused, _andThen_, inside, step, scan, runOf}
 
--- ---- what a field's start says
+-- ---- what a run's start says
+
+-- what stands at the start of a run: nothing, a refusal of a field, or a field's header with a tag that is known, a content that fits, and a length and a depth that are allowed
+pub data StartView (d : ℕ) : List ℕ → Start → Type 0 where
+  at-end : StartView d [] Start.End
+  refused : (f : Refusal) (bs : List ℕ) → (9 ≤ numberOf f) × (numberOf f ≤ 12) → 0 < length bs → StartView d bs (Start.Refused f)
+  header : (t h l : ℕ) (w : List ℕ) (k : FieldKind) → kindOfTag t ≡ TagLookup.Known k → h * 256 + l ≤ length w → lengthAllowed k (h * 256 + l) ≡ true → depthAllowed k d ≡ true
+      → StartView d (t ∷ h ∷ l ∷ w) (Start.Field k (h * 256 + l))
+
+pub start-view : (d : ℕ) (bs : List ℕ) → StartView d bs (startOf d bs)
+start-view d [] = at-end
+start-view d (t ∷ []) = refused Refusal.Truncated (t ∷ []) (omega arith, omega arith) (omega arith)
+start-view d (t ∷ h ∷ []) = refused Refusal.Truncated (t ∷ h ∷ []) (omega arith, omega arith) (omega arith)
+start-view d (t ∷ h ∷ l ∷ w) = by (kindOfTag t) refl
+  where
+    known : (k : FieldKind) → kindOfTag t ≡ TagLookup.Known k
+        → (a : Bool) → ltb (length w) (h * 256 + l) ≡ a → (b : Bool) → lengthAllowed k (h * 256 + l) ≡ b → (c : Bool) → depthAllowed k d ≡ c
+        → StartView d (t ∷ h ∷ l ∷ w)
+        (cond a (Start.Refused Refusal.Truncated) (cond b (cond c (Start.Field k (h * 256 + l)) (Start.Refused Refusal.Depth)) (Start.Refused Refusal.Length)))
+    known k e true ea b eb c ec = refused Refusal.Truncated (t ∷ h ∷ l ∷ w) (omega arith, omega arith) (omega arith)
+    known k e false ea false eb c ec = refused Refusal.Length (t ∷ h ∷ l ∷ w) (omega arith, omega arith) (omega arith)
+    known k e false ea true eb false ec = refused Refusal.Depth (t ∷ h ∷ l ∷ w) (omega arith, omega arith) (omega arith)
+    known k e false ea true eb true ec = header t h l w k e (ltb-false _ _ ea) eb ec
+
+    by : (tag : TagLookup) → kindOfTag t ≡ tag → StartView d (t ∷ h ∷ l ∷ w) (judged tag (h * 256 + l) (length w) d)
+    by TagLookup.Unknown e = refused Refusal.Tag (t ∷ h ∷ l ∷ w) (omega arith, omega arith) (omega arith)
+    by (TagLookup.Known k) e = known k e (ltb (length w) (h * 256 + l)) refl (lengthAllowed k (h * 256 + l)) refl (depthAllowed k d) refl
 
 -- a field stands where the header is whole and known, its content fits, and its length and depth are allowed
 pub record Stands (d : ℕ) (bs : List ℕ) (k : FieldKind) (n : ℕ) : Type 0 where
@@ -25,31 +52,18 @@ pub record Stands (d : ℕ) (bs : List ℕ) (k : FieldKind) (n : ℕ) : Type 0 w
   pub long : lengthAllowed k n ≡ true
   pub deep : depthAllowed k d ≡ true
 
-judged-field : (t : TagLookup) (len left d : ℕ) (k : FieldKind) (n : ℕ) → judged t len left d ≡ Start.Field k n
-    → (n ≤ left) × (lengthAllowed k n ≡ true) × (depthAllowed k d ≡ true)
-judged-field TagLookup.Unknown len left d k n = λ e. let z : _≡_ {A = ℕ} 0 1 = cc in absurd (omega arith)
-judged-field (TagLookup.Known j) len left d k n = λ e. by (ltb left len) refl (lengthAllowed j len) refl (depthAllowed j d) refl e
-  where
-    by : (a : Bool) → ltb left len ≡ a → (b : Bool) → lengthAllowed j len ≡ b → (c : Bool) → depthAllowed j d ≡ c
-        → cond a (Start.Refused Refusal.Truncated) (cond b (cond c (Start.Field j len) (Start.Refused Refusal.Depth)) (Start.Refused Refusal.Length))
-        ≡ Start.Field k n
-        → (n ≤ left) × (lengthAllowed k n ≡ true) × (depthAllowed k d ≡ true)
-    by true ea b eb c ec e = let z : _≡_ {A = ℕ} 0 1 = cc in absurd (omega arith)
-    by false ea false eb c ec e = let z : _≡_ {A = ℕ} 0 1 = cc in absurd (omega arith)
-    by false ea true eb false ec e = let z : _≡_ {A = ℕ} 0 1 = cc in absurd (omega arith)
-    by false ea true eb true ec e =
-        let kind : j ≡ k = cc in
-        let long : len ≡ n = cc in
-        (subst (λ (m : ℕ). m ≤ left) long (ltb-false left len ea), ap₂ lengthAllowed (sym kind) (sym long) ∙ eb, ap (λ (i : FieldKind). depthAllowed i d) (sym kind) ∙ ec)
-
 pub stands : (d : ℕ) (bs : List ℕ) (k : FieldKind) (n : ℕ) → startOf d bs ≡ Start.Field k n → Stands d bs k n
-stands d [] k n e = let z : _≡_ {A = ℕ} 0 1 = cc in absurd (omega arith)
-stands d (t ∷ []) k n e = let z : _≡_ {A = ℕ} 0 1 = cc in absurd (omega arith)
-stands d (t ∷ h ∷ []) k n e = let z : _≡_ {A = ℕ} 0 1 = cc in absurd (omega arith)
-stands d (t ∷ h ∷ l ∷ bs) k n e =
-    let j = judged-field (kindOfTag t) (h * 256 + l) (length bs) d k n e in
-    let fits : n ≤ length bs = j .0 in
-    record { room = omega arith; long = j .1; deep = j .2 }
+stands d bs k n e = by bs k n (subst (StartView d bs) e (start-view d bs))
+  where
+    by : (bs : List ℕ) (k : FieldKind) (n : ℕ) → StartView d bs (Start.Field k n) → Stands d bs k n
+    by bs k n (header t h l w j known room long deep) = record { room = omega arith; long = long; deep = deep }
+
+-- only an empty run is at its end
+pub end-empty : (d : ℕ) (bs : List ℕ) → startOf d bs ≡ Start.End → bs ≡ []
+end-empty d bs e = by bs (subst (StartView d bs) e (start-view d bs))
+  where
+    by : (bs : List ℕ) → StartView d bs Start.End → bs ≡ []
+    by bs at-end = refl
 
 -- ---- one step, whatever the number of steps
 

@@ -13,11 +13,10 @@ use lib.Seq.{length-take-le}
 use Rattle.refusals.specs.declared.Refusal.{Refusal}
 use Rattle.refusals.specs.Numbers.{numberOf}
 use Rattle.fields.specs.declared.FieldKind.{FieldKind}
-use Rattle.fields.specs.declared.TagLookup.{TagLookup}
 use Rattle.fields.specs.declared.Start.{Start}
-use Rattle.fields.specs.Start.{kindOfTag, lengthAllowed, depthAllowed, judged, startOf}
+use Rattle.fields.specs.Start.{startOf}
 use Rattle.fields.specs.Run.{Field, Scan, Fields, Refused, _andThen_, inside, step, scan, runOf, sheetOf, insideOf}
-use Rattle.fields.specs.Laws.{Stands, stands}
+use Rattle.fields.specs.Laws.{StartView, refused, start-view, Stands, stands}
 
 -- ---- what is stated
 
@@ -64,32 +63,6 @@ bounded-in d p n d' p' n' (Fields fs) hd hp hn h =
 bounded-in d p n d' p' n' (Refused f q) hd hp hn h = record { number = h .number; offset = (omega (arith, h .offset .0), omega (arith, h .offset .1)) }
 
 -- ---- a step
-
--- what stands at the start of a run: nothing, a refusal of a field, or a field's header with a tag that is known, a content that fits, and a length and a depth that are allowed
-pub data StartView (d : ℕ) : List ℕ → Start → Type 0 where
-  at-end : StartView d [] Start.End
-  refused : (f : Refusal) (bs : List ℕ) → (9 ≤ numberOf f) × (numberOf f ≤ 12) → 0 < length bs → StartView d bs (Start.Refused f)
-  header : (t h l : ℕ) (w : List ℕ) (k : FieldKind) → kindOfTag t ≡ TagLookup.Known k → h * 256 + l ≤ length w → lengthAllowed k (h * 256 + l) ≡ true → depthAllowed k d ≡ true
-      → StartView d (t ∷ h ∷ l ∷ w) (Start.Field k (h * 256 + l))
-
-pub start-view : (d : ℕ) (bs : List ℕ) → StartView d bs (startOf d bs)
-start-view d [] = at-end
-start-view d (t ∷ []) = refused Refusal.Truncated (t ∷ []) (omega arith, omega arith) (omega arith)
-start-view d (t ∷ h ∷ []) = refused Refusal.Truncated (t ∷ h ∷ []) (omega arith, omega arith) (omega arith)
-start-view d (t ∷ h ∷ l ∷ w) = by (kindOfTag t) refl
-  where
-    known : (k : FieldKind) → kindOfTag t ≡ TagLookup.Known k
-        → (a : Bool) → ltb (length w) (h * 256 + l) ≡ a → (b : Bool) → lengthAllowed k (h * 256 + l) ≡ b → (c : Bool) → depthAllowed k d ≡ c
-        → StartView d (t ∷ h ∷ l ∷ w)
-        (cond a (Start.Refused Refusal.Truncated) (cond b (cond c (Start.Field k (h * 256 + l)) (Start.Refused Refusal.Depth)) (Start.Refused Refusal.Length)))
-    known k e true ea b eb c ec = refused Refusal.Truncated (t ∷ h ∷ l ∷ w) (omega arith, omega arith) (omega arith)
-    known k e false ea false eb c ec = refused Refusal.Length (t ∷ h ∷ l ∷ w) (omega arith, omega arith) (omega arith)
-    known k e false ea true eb false ec = refused Refusal.Depth (t ∷ h ∷ l ∷ w) (omega arith, omega arith) (omega arith)
-    known k e false ea true eb true ec = header t h l w k e (ltb-false _ _ ea) eb ec
-
-    by : (tag : TagLookup) → kindOfTag t ≡ tag → StartView d (t ∷ h ∷ l ∷ w) (judged tag (h * 256 + l) (length w) d)
-    by TagLookup.Unknown e = refused Refusal.Tag (t ∷ h ∷ l ∷ w) (omega arith, omega arith) (omega arith)
-    by (TagLookup.Known k) e = known k e (ltb (length w) (h * 256 + l)) refl (lengthAllowed k (h * 256 + l)) refl (depthAllowed k d) refl
 
 -- a run whose steps are bounded, for its first field, its inside and the rest
 module _ (run : ℕ → ℕ → List ℕ → Scan) (shorter : (d p : ℕ) (bs : List ℕ) → d ≤ 4 → Bounded d p (length bs) (run d p bs)) (d p : ℕ) (bs : List ℕ) (top : d ≤ 4) where

@@ -9,7 +9,7 @@ use lib.ListN.{length, take, drop}
 use Rattle.refusals.specs.declared.Refusal.{Refusal}
 use Rattle.fields.specs.declared.FieldKind.{FieldKind}
 use Rattle.fields.specs.declared.Start.{Start}
-use Rattle.fields.specs.Start.{startOf}
+use Rattle.fields.specs.Start.{isLeaf, startOf}
 
 -- a field: the offset of its tag, its depth (top fields are at depth 1), what it holds, and its content
 pub record Field : Type 0 where
@@ -30,12 +30,9 @@ Fields fs andThen Fields gs = Fields (fs ++ gs)
 Fields fs andThen Refused f p = Refused f p
 Refused f p andThen s = Refused f p
 
--- what a field holds inside: of a group, its content as a run one deeper, which starts after the header's three bytes
+-- what a field holds inside: a leaf nothing, a group its content as a run one deeper, which starts after the header's three bytes
 abbrev pub inside : (ℕ → ℕ → List ℕ → Scan) → FieldKind → (depth place : ℕ) → List ℕ → Scan
-inside run FieldKind.Word d p c = Fields []
-inside run FieldKind.Figure d p c = Fields []
-inside run FieldKind.Note d p c = Fields []
-inside run FieldKind.Group d p c = run (suc d) (p + 3) c
+inside run k d p c = cond (isLeaf k) (Fields []) (run (suc d) (p + 3) c)
 
 -- one step: the field at the start of the run, its inside, then the rest of the run
 abbrev pub step : (ℕ → ℕ → List ℕ → Scan) → (depth place : ℕ) → List ℕ → Start → Scan

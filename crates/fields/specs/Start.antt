@@ -1,9 +1,9 @@
 -- What stands at the start of a run of bytes: document 01's tags and lengths, and the refusals in its order, 9 (header cut), 10, 9 (content cut), 11, 12.
 -- Assumes nothing.
 use mathlib.Core.Path.{_≡_}
-use mathlib.Core.Bool.{Bool, true, false, cond}
+use mathlib.Core.Bool.{Bool, true, false, cond, _||_}
 use mathlib.Core.List.{List, [], _∷_}
-use Prim.Native.Nat.{ℕ, _+_, _*_}
+use Prim.Native.Nat.{ℕ, _+_, _*_, _/_, _%_}
 use lib.Dec.{eqb, ltb}
 use lib.ListN.{length}
 use Rattle.refusals.specs.declared.Refusal.{Refusal}
@@ -17,6 +17,21 @@ tagOf FieldKind.Word = 0x10
 tagOf FieldKind.Figure = 0x11
 tagOf FieldKind.Note = 0x12
 tagOf FieldKind.Group = 0x20
+
+-- whether a field of this kind is a leaf: all but a group, which holds fields
+abbrev pub isLeaf : FieldKind → Bool
+isLeaf FieldKind.Word = true
+isLeaf FieldKind.Figure = true
+isLeaf FieldKind.Note = true
+isLeaf FieldKind.Group = false
+
+-- a tag, the length of the content in two bytes, high first, and the content
+abbrev pub tagged : ℕ → List ℕ → List ℕ
+tagged t c = t ∷ length c / 256 ∷ length c % 256 ∷ c
+
+-- the bytes of a field
+abbrev pub fieldBytes : FieldKind → List ℕ → List ℕ
+fieldBytes k c = tagged (tagOf k) c
 
 -- the field that a tag stands for
 abbrev pub kindOfTag : ℕ → TagLookup
@@ -34,10 +49,7 @@ lengthAllowed FieldKind.Group n = true
 
 -- a group may not stand at depth 4
 abbrev pub depthAllowed : FieldKind → ℕ → Bool
-depthAllowed FieldKind.Word d = true
-depthAllowed FieldKind.Figure d = true
-depthAllowed FieldKind.Note d = true
-depthAllowed FieldKind.Group d = ltb d 4
+depthAllowed k d = isLeaf k || ltb d 4
 
 -- a whole header, with the number of bytes left after it: 10, then 9, 11, 12, else a field
 abbrev pub judged : TagLookup → (len left depth : ℕ) → Start

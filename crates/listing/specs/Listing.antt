@@ -15,7 +15,7 @@ use Rattle.contents.specs.Contents.{wordIn, figureIn}
 use Rattle.verdicts.specs.declared.Previous.{Previous}
 use Rattle.verdicts.specs.Verdicts.{verdictOf}
 use Rattle.lines.specs.Lines.{wordLine, verdictLine, totalLine, refusalLine}
-use Rattle.totals.specs.Totals.{wordsIn, refusedWordsIn}
+use Rattle.totals.specs.Totals.{wordOf, wordsIn, refusedWordsIn}
 use Rattle.listing.specs.declared.Before.{Before}
 use Rattle.listing.specs.declared.Listed.{Listed}
 
@@ -33,10 +33,7 @@ wordAt d (WordIn.Word w) = Before.Word d w
 wordAt d (WordIn.Refused f) = Before.Nothing
 
 abbrev pub after : FieldKind → (depth : ℕ) → List ℕ → Before
-after FieldKind.Word d c = wordAt d (wordIn c)
-after FieldKind.Figure d c = Before.Nothing
-after FieldKind.Note d c = Before.Nothing
-after FieldKind.Group d c = Before.Nothing
+after k d c = wordAt d (wordOf k c)
 
 abbrev pub lineOfWord : WordIn → List ℕ
 lineOfWord (WordIn.Word w) = wordLine w
@@ -46,12 +43,16 @@ abbrev pub lineOfFigure : Previous → FigureIn → List ℕ
 lineOfFigure p (FigureIn.Figure l m) = verdictLine (verdictOf p l m)
 lineOfFigure p (FigureIn.Refused f) = []
 
--- the line of a field (a word field of a sheet always has its four bytes, a figure field its nine)
+-- the line of a field, with what a figure is tested against (a word field of a sheet always has its four bytes, a figure field its nine)
+abbrev pub lineAfter : Previous → FieldKind → List ℕ → List ℕ
+lineAfter p FieldKind.Word c = lineOfWord (wordIn c)
+lineAfter p FieldKind.Figure c = lineOfFigure p (figureIn c)
+lineAfter p FieldKind.Note c = []
+lineAfter p FieldKind.Group c = []
+
+-- the same by what stands just before the field in the order of the tags
 abbrev pub lineOf : Before → FieldKind → (depth : ℕ) → List ℕ → List ℕ
-lineOf b FieldKind.Word d c = lineOfWord (wordIn c)
-lineOf b FieldKind.Figure d c = lineOfFigure (previous b d) (figureIn c)
-lineOf b FieldKind.Note d c = []
-lineOf b FieldKind.Group d c = []
+lineOf b k d c = lineAfter (previous b d) k c
 
 -- the lines of the fields, in their order
 abbrev pub linesOf : Before → List Field → List ℕ
@@ -59,11 +60,6 @@ linesOf b [] = []
 linesOf b (f ∷ fs) = lineOf b (f .kind) (f .depth) (f .content) ++ linesOf (after (f .kind) (f .depth) (f .content)) fs
 
 -- ---- the text
-
--- the lines of a sheet's fields; a refused sheet has none
-abbrev pub linesIn : Scan → List ℕ
-linesIn (Fields fs) = linesOf Before.Nothing fs
-linesIn (Refused f p) = []
 
 -- the lines and the total, or the refusal
 abbrev pub listingOf : Scan → List ℕ

@@ -14,7 +14,7 @@ use lib.Seq.{length-take-le}
 use Rattle.refusals.specs.declared.Refusal.{Refusal}
 use Rattle.fields.specs.declared.FieldKind.{FieldKind}
 use Rattle.fields.specs.declared.Start.{Start}
-use Rattle.fields.specs.Start.{startOf}
+use Rattle.fields.specs.Start.{isLeaf, startOf}
 use Rattle.fields.specs.Run.{Field, Scan, Fields, Refused, _andThen_, inside, step, scan, runOf, sheetOf}
 use Rattle.fields.specs.Laws.{stands}
 use Rattle.fields.specs.Limits.{not-longer, longer, sheet-refusal}
@@ -33,10 +33,7 @@ use Rattle.listing.specs.Listing.{previous, after, lineOfWord, lineOfFig
 -- ---- the bytes of a sheet that are a field's own: all of it, or a group's header
 
 abbrev pub own : FieldKind → List ℕ → ℕ
-own FieldKind.Word c = 3 + length c
-own FieldKind.Figure c = 3 + length c
-own FieldKind.Note c = 3 + length c
-own FieldKind.Group c = 3
+own k c = cond (isLeaf k) (3 + length c) 3
 
 abbrev pub owned : List Field → ℕ
 owned [] = 0

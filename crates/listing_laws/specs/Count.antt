@@ -15,7 +15,7 @@ use Rattle.codes.specs.declared.Status.{Status}
 use Rattle.fields.specs.declared.FieldKind.{FieldKind}
 use Rattle.fields.specs.Start.{lengthAllowed}
 use Rattle.fields.specs.Run.{Field, Fields, sheetOf}
-use Rattle.fields.specs.Grammar.{Trees, no-more, leaf, group, Bytes, bytesOf, fieldsOf, isLeaf, Allowed, no-more-allowed, leaf-allowed, group-allowed, WrittenBy, written-sheet}
+use Rattle.fields.specs.Grammar.{Trees, no-more, leaf, group, Bytes, bytesOf, fieldsOf, Allowed, no-more-allowed, leaf-allowed, group-allowed, WrittenBy, written-sheet}
 use Rattle.contents.specs.declared.WordIn.{WordIn}
 use Rattle.contents.specs.declared.FigureIn.{FigureIn}
 use Rattle.contents.specs.BigEndian.{valueOf}
@@ -35,8 +35,8 @@ use Rattle.numerals.specs.Theorems.{Digits, decimal-digits, padded-digits}
 use Rattle.lines.specs.Lines as lines
 use Rattle.totals.specs.Totals.{isWord, wordsIn, refusedWordsIn}
 use Rattle.listing.specs.declared.Before.{Before}
-use Rattle.listing.specs.Listing.{lineOfWord, lineOfFigure, linesOf, listingOf, textOf}
-use Rattle.listing_laws.specs.Groups.{seen, lineAfter, linesOfTrees, lines-by-groups}
+use Rattle.listing.specs.Listing.{lineOfWord, lineOfFigure, lineAfter, linesOf, listingOf, textOf}
+use Rattle.listing_laws.specs.Groups.{seen, linesOfTrees, lines-by-groups}
 
 -- ---- what is counted
 

@@ -11,12 +11,11 @@ use Rattle.fields.specs.declared.FieldKind.{FieldKind}
 use Rattle.fields.specs.Run.{Field, Fields}
 use Rattle.fields.specs.Grammar.{Trees, no-more, leaf, group, bytesOf, fieldsOf, Allowed, sheet-written}
 use Rattle.contents.specs.declared.WordIn.{WordIn}
-use Rattle.contents.specs.Contents.{wordIn, figureIn}
 use Rattle.verdicts.specs.declared.Previous.{Previous}
 use Rattle.lines.specs.Lines.{totalLine}
-use Rattle.totals.specs.Totals.{wordsIn, refusedWordsIn}
+use Rattle.totals.specs.Totals.{wordOf, wordsIn, refusedWordsIn}
 use Rattle.listing.specs.declared.Before.{Before}
-use Rattle.listing.specs.Listing.{previous, wordAt, after, lineOfWord, lineOfFigure, lineOf, linesOf, listingOf, textOf}
+use Rattle.listing.specs.Listing.{previous, wordAt, after, lineAfter, lineOf, linesOf, listingOf, textOf}
 
 -- ---- what is stated
 
@@ -26,17 +25,7 @@ seenWord (WordIn.Word w) = Previous.Word w
 seenWord (WordIn.Refused f) = Previous.Other
 
 abbrev pub seen : FieldKind → List ℕ → Previous
-seen FieldKind.Word c = seenWord (wordIn c)
-seen FieldKind.Figure c = Previous.Other
-seen FieldKind.Note c = Previous.Other
-seen FieldKind.Group c = Previous.Other
-
--- the line of a field that stands just after another in its list
-abbrev pub lineAfter : Previous → FieldKind → List ℕ → List ℕ
-lineAfter p FieldKind.Word c = lineOfWord (wordIn c)
-lineAfter p FieldKind.Figure c = lineOfFigure p (figureIn c)
-lineAfter p FieldKind.Note c = []
-lineAfter p FieldKind.Group c = []
+seen k c = seenWord (wordOf k c)
 
 -- a list of fields: each after the one before it. The first of a group sees nothing, and nothing sees into a group.
 abbrev pub linesOfTrees : Previous → Trees → List ℕ
@@ -71,12 +60,6 @@ word-deeper : (d e : ℕ) (r : WordIn) → d < e → Deeper d (wordAt e r)
 word-deeper d e (WordIn.Word w) h = deep-word h
 word-deeper d e (WordIn.Refused f) h = no-word
 
-after-deeper : (d e : ℕ) (k : FieldKind) (c : List ℕ) → d < e → Deeper d (after k e c)
-after-deeper d e FieldKind.Word c h = word-deeper d e (wordIn c) h
-after-deeper d e FieldKind.Figure c h = no-word
-after-deeper d e FieldKind.Note c h = no-word
-after-deeper d e FieldKind.Group c h = no-word
-
 last-append : (b : Before) (fs gs : List Field) → lastOf b (fs ++ gs) ≡ lastOf (lastOf b fs) gs
 last-append b [] gs = refl
 last-append b (f ∷ fs) gs = last-append (after (f .kind) (f .depth) (f .content)) fs gs
@@ -84,7 +67,7 @@ last-append b (f ∷ fs) gs = last-append (after (f .kind) (f .depth) (f .conten
 -- the last field of a deeper list is not seen
 last-deeper : (d e p : ℕ) (ts : Trees) (b : Before) → d < e → Deeper d b → Deeper d (lastOf b (fieldsOf e p ts))
 last-deeper d e p no-more b h k = k
-last-deeper d e p (leaf j c ts) b h k = last-deeper d e (p + 3 + length c) ts (after j e c) h (after-deeper d e j c h)
+last-deeper d e p (leaf j c ts) b h k = last-deeper d e (p + 3 + length c) ts (after j e c) h (word-deeper d e (wordOf j c) h)
 last-deeper d e p (group us ts) b h k =
     let inner = last-deeper d (suc e) (p + 3) us Before.Nothing (omega arith) no-word in
     subst (Deeper d) (sym (last-append Before.Nothing (fieldsOf (suc e) (p + 3) us) (fieldsOf e (p + 3 + length (bytesOf us)) ts)))
@@ -96,24 +79,12 @@ seen-word : (d : ℕ) (r : WordIn) → previous (wordAt d r) d ≡ seenWord r
 seen-word d (WordIn.Word w) = rw (eq-eqb d d refl)
 seen-word d (WordIn.Refused f) = refl
 
-seen-after : (d : ℕ) (k : FieldKind) (c : List ℕ) → previous (after k d c) d ≡ seen k c
-seen-after d FieldKind.Word c = seen-word d (wordIn c)
-seen-after d FieldKind.Figure c = refl
-seen-after d FieldKind.Note c = refl
-seen-after d FieldKind.Group c = refl
-
-line-after : (b : Before) (d : ℕ) (k : FieldKind) (c : List ℕ) → lineOf b k d c ≡ lineAfter (previous b d) k c
-line-after b d FieldKind.Word c = refl
-line-after b d FieldKind.Figure c = refl
-line-after b d FieldKind.Note c = refl
-line-after b d FieldKind.Group c = refl
-
 -- The lines of the fields in the order of their tags are those of the lists.
 pub lines-by-groups : (d p : ℕ) (ts : Trees) (b : Before) → linesOf b (fieldsOf d p ts) ≡ linesOfTrees (previous b d) ts
 lines-by-groups d p no-more b = refl
 lines-by-groups d p (leaf k c ts) b =
-    ap₂ (λ (x y : List ℕ). x ++ y) (line-after b d k c)
-    (lines-by-groups d (p + 3 + length c) ts (after k d c) ∙ ap (λ (q : Previous). linesOfTrees q ts) (seen-after d k c))
+    ap (λ (x : List ℕ). lineAfter (previous b d) k c ++ x)
+    (lines-by-groups d (p + 3 + length c) ts (after k d c) ∙ ap (λ (q : Previous). linesOfTrees q ts) (seen-word d (wordOf k c)))
 lines-by-groups d p (group us ts) b =
     let inner : List Field = fieldsOf (suc d) (p + 3) us in
     let rest : List Field = fieldsOf d (p + 3 + length (bytesOf us)) ts in

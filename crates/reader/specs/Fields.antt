@@ -1,21 +1,18 @@
 -- The fields of a sheet by their index: what a walk gives after so many steps is the field with that index.
 -- Assumes nothing.
-use mathlib.Core.Path.{_≡_, refl, ap, _∙_, subst}
+use mathlib.Core.Path.{_≡_, refl, sym, ap, _∙_, subst}
 use mathlib.Core.Bool.{Bool, true, false}
 use mathlib.Core.List.{List, [], _∷_}
 use Prim.Native.Nat.{ℕ, zero, suc, _-_, _<_}
 use native.Mathlib.Omega.{arith}
-use lib.ListN.{length, take, drop}
-use Rattle.fields.specs.declared.Start.{Start}
-use Rattle.fields.specs.Start.{startOf}
 use Rattle.fields.specs.Run.{Field, Scan, Fields, Refused, sheetOf}
-use Rattle.walk.specs.declared.Position.{Position}
 use Rattle.walk.specs.declared.Walk.{Walk}
+use Rattle.walk.specs.declared.FieldAt.{FieldAt}
 use Rattle.walk.specs.declared.Given.{Given}
 use Rattle.walk.specs.declared.WalkStep.{WalkStep}
-use Rattle.walk.specs.Step.{startWalk, walkOf, levelOf, givenAt, stepOf}
+use Rattle.walk.specs.Step.{startWalk, walkOf, stepOf}
 use Rattle.walk.specs.Stands.{Stands, start-stands}
-use Rattle.walk.specs.Walked.{after, givenOf, steps, ends}
+use Rattle.walk.specs.Walked.{after, givenOf, steps, stays, ends}
 
 -- whether a step gave a field
 abbrev pub isField : Given → Bool
@@ -34,21 +31,14 @@ abbrev pub fieldAt : Scan → ℕ → Given
 fieldAt (Fields fs) n = fieldIn fs n
 fieldAt (Refused f p) n = Given.Refused f p
 
--- ---- a walk stays where its step gives no field
+-- ---- a walk stays where its step gives no field, so that no number of steps leads on
 
-stays-at : (w : Position) (d : ℕ) (t : Start) → isField (givenAt w d t .given) ≡ false → givenAt w d t .next ≡ Walk.At w
-stays-at w d Start.End e = refl
-stays-at w d (Start.Refused f) e = refl
-stays-at w d (Start.Field k n) e = let z : _≡_ {A = ℕ} 0 1 = cc in absurd (omega arith)
+not-a-field : (g : Given) → isField g ≡ false → (a : FieldAt) → g ≡ Given.Field a → ⊥
+not-a-field g e a t = let z : _≡_ {A = Bool} false true = sym e ∙ ap isField t in let y : _≡_ {A = ℕ} 0 1 = cc in omega arith
 
-stays : (s : List ℕ) (w : Walk) → isField (stepOf s w .given) ≡ false → stepOf s w .next ≡ w
-stays s (Walk.Refused f p) e = refl
-stays s (Walk.At w) e = let l = levelOf w (length s) in stays-at w (l .depth) (startOf (l .depth) (drop (w .place) (take (l .end) s))) e
-
--- so that no number of steps leads on
 pub stopped : (s : List ℕ) (w : Walk) (n : ℕ) → isField (stepOf s w .given) ≡ false → after n s w ≡ w
 stopped s w zero e = refl
-stopped s w (suc n) e = ap (after n s) (stays s w e) ∙ stopped s w n e
+stopped s w (suc n) e = ap (after n s) (stays s w (not-a-field (stepOf s w .given) e)) ∙ stopped s w n e
 
 -- the first of so many steps
 pub after-one : (s : List ℕ) (w : Walk) (n : ℕ) → 0 < n → after n s w ≡ after (n - 1) s (stepOf s w .next)

@@ -3,4 +3,5 @@ pub mod Step
 pub mod Within
 pub mod Rest
 pub mod Stands
+pub mod Fold
 pub mod Walked

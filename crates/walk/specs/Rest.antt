@@ -15,9 +15,8 @@ use Rattle.fields.specs.declared.FieldKind.{FieldKind}
 use Rattle.fields.specs.declared.Start.{Start}
 use Rattle.fields.specs.Start.{startOf}
 use Rattle.fields.specs.Run.{Field, Scan, Fields, Refused, _andThen_, inside, step, scan, runOf, sheetLimit, sheetOf}
-use Rattle.fields.specs.Laws.{run-step, stands}
+use Rattle.fields.specs.Laws.{run-step, stands, end-empty}
 use Rattle.fields.specs.AndThen.{nothing-first, nothing-after, regroup}
-use Rattle.fields.specs.Append.{end-empty}
 use Rattle.walk.specs.declared.Position.{Position}
 use Rattle.walk.specs.declared.Walk.{Walk}
 use Rattle.walk.specs.declared.FieldAt.{FieldAt}

@@ -7,7 +7,7 @@ use lib.Dec.{eqb, ltb}
 use lib.ListN.{length, take, drop}
 use Rattle.fields.specs.declared.FieldKind.{FieldKind}
 use Rattle.fields.specs.declared.Start.{Start}
-use Rattle.fields.specs.Start.{startOf}
+use Rattle.fields.specs.Start.{isLeaf, startOf}
 use Rattle.fields.specs.Run.{Scan, Fields, Refused, sheetOf}
 use Rattle.walk.specs.declared.Position.{Position}
 use Rattle.walk.specs.declared.Level.{Level}
@@ -49,12 +49,9 @@ entered w d from end =
 abbrev pub passed : Position → ℕ → Position
 passed w end = record { place = end; end1 = w .end1; end2 = w .end2; end3 = w .end3 }
 
--- where the walk goes on after a field: inside a group, past any other
+-- where the walk goes on after a field: past a leaf, inside a group
 abbrev pub nextOf : Position → (depth : ℕ) → FieldKind → (from end : ℕ) → Position
-nextOf w d FieldKind.Word from end = passed w end
-nextOf w d FieldKind.Figure from end = passed w end
-nextOf w d FieldKind.Note from end = passed w end
-nextOf w d FieldKind.Group from end = entered w d from end
+nextOf w d k from end = cond (isLeaf k) (passed w end) (entered w d from end)
 
 -- what is given where a field, the end or a refusal stands; at the end and at a refusal the walk stays
 abbrev pub givenAt : Position → (depth : ℕ) → Start → WalkStep

@@ -13,6 +13,7 @@ use Rattle.fields.specs.Start.{startOf}
 use Rattle.fields.specs.Run.{Field, Scan, Fields, Refused, scan, sheetOf}
 use Rattle.walk.specs.declared.Position.{Position}
 use Rattle.walk.specs.declared.Walk.{Walk}
+use Rattle.walk.specs.declared.FieldAt.{FieldAt}
 use Rattle.walk.specs.declared.Given.{Given}
 use Rattle.walk.specs.declared.WalkStep.{WalkStep}
 use Rattle.walk.specs.Step.{walkOf, startWalk, levelOf, givenAt, stepOf}
@@ -73,22 +74,22 @@ steps s w f fs h = by (stepOf s w .given) refl
           less = advances s w a e .less;
         }
 
--- at the end a walk stays
-at-end : (w : Position) (d : ℕ) (t : Start) → givenAt w d t .given ≡ Given.End → givenAt w d t ≡ record { given = Given.End; next = Walk.At w }
-at-end w d Start.End e = refl
-at-end w d (Start.Refused f) e = let z : _≡_ {A = ℕ} 0 1 = cc in absurd (omega arith)
-at-end w d (Start.Field k n) e = let z : _≡_ {A = ℕ} 0 1 = cc in absurd (omega arith)
+-- where a step gives no field, the walk stays
+stays-at : (w : Position) (d : ℕ) (t : Start) → ((a : FieldAt) → givenAt w d t .given ≡ Given.Field a → ⊥) → givenAt w d t .next ≡ Walk.At w
+stays-at w d Start.End none = refl
+stays-at w d (Start.Refused f) none = refl
+stays-at w d (Start.Field k n) none = absurd (none _ refl)
 
-stays : (s : List ℕ) (w : Walk) → stepOf s w .given ≡ Given.End → stepOf s w ≡ record { given = Given.End; next = w }
-stays s (Walk.Refused f p) e = let z : _≡_ {A = ℕ} 0 1 = cc in absurd (omega arith)
-stays s (Walk.At w) e = let l = levelOf w (length s) in at-end w (l .depth) (startOf (l .depth) (drop (w .place) (take (l .end) s))) e
+pub stays : (s : List ℕ) (w : Walk) → ((a : FieldAt) → stepOf s w .given ≡ Given.Field a → ⊥) → stepOf s w .next ≡ w
+stays s (Walk.Refused f p) none = refl
+stays s (Walk.At w) none = let l = levelOf w (length s) in stays-at w (l .depth) (startOf (l .depth) (drop (w .place) (take (l .end) s))) none
 
 -- with nothing ahead, a step gives the end and leaves the walk as it is
 pub ends : (s : List ℕ) (w : Walk) → Stands s w (Fields []) → stepOf s w ≡ record { given = Given.End; next = w }
 ends s w h = by (stepOf s w .given) refl
   where
     by : (g : Given) → stepOf s w .given ≡ g → stepOf s w ≡ record { given = Given.End; next = w }
-    by Given.End e = stays s w e
+    by Given.End e = λ i. record { given = e i; next = stays s w (λ a g. let z : _≡_ {A = ℕ} 0 1 = cc in omega arith) i }
     by (Given.Refused g p) e =
         let none = step-refused s w (Fields []) h g p e in
         let z : _≡_ {A = ℕ} 0 1 = cc in absurd (omega arith)

@@ -1,7 +1,7 @@
 -- A field added at the end of a legal sheet leaves a legal sheet, whose fields are the old ones, the new one, and what the new one holds inside.
 -- Assumes nothing.
 use mathlib.Core.Path.{_≡_, refl, sym, ap, _∙_}
-use mathlib.Core.Bool.{Bool, true, false, cond}
+use mathlib.Core.Bool.{Bool, true, false, cond, or-true}
 use mathlib.Core.List.{List, [], _∷_, _++_, map}
 use Prim.Native.Nat.{ℕ, _+_, _<_}
 use native.Mathlib.Nat.{add-zero}
@@ -12,23 +12,20 @@ use lib.IntN.{ℤ}
 use lib.ListN.{length, take, length-append}
 use Rattle.refusals.specs.declared.Refusal.{Refusal}
 use Rattle.fields.specs.declared.FieldKind.{FieldKind}
-use Rattle.fields.specs.Start.{lengthAllowed, depthAllowed}
+use Rattle.fields.specs.Start.{isLeaf, fieldBytes, lengthAllowed, depthAllowed}
 use Rattle.fields.specs.Run.{Field, Scan, Fields, Refused, _andThen_, inside, runOf, sheetLimit, sheetOf, insideOf}
 use Rattle.fields.specs.Append.{append}
+use Rattle.fields.specs.Grammar.{run-one}
 use Rattle.fields.specs.Moved.{movedField, moved, run-moved}
 use Rattle.contents.specs.Contents.{wordBytes, figureBytes}
 use Rattle.writer.specs.declared.Written.{Written}
-use Rattle.writer.specs.Write.{fieldBytes, Write, writeOf, groupOf}
+use Rattle.writer.specs.Write.{Write, writeOf, groupOf}
 use Rattle.writer.specs.Answers.{ends}
-use Rattle.writer.specs.OneField.{one-field}
 use Rattle.writer.specs.Buffer.{up-to-end, group-written}
 
 -- every kind of field may stand at the top
 at-top : (k : FieldKind) → depthAllowed k 1 ≡ true
-at-top FieldKind.Word = refl
-at-top FieldKind.Figure = refl
-at-top FieldKind.Note = refl
-at-top FieldKind.Group = refl
+at-top k = or-true (isLeaf k)
 
 -- a sheet that has fields is a run of them, within the limit
 top-run : (s : List ℕ) (fs : List Field) → sheetOf s ≡ Fields fs → runOf 1 0 s ≡ Fields fs
@@ -47,13 +44,12 @@ module _ (s out : List ℕ) (fs : List Field) (end : ℕ) (legal : sheetOf s ≡
       let bounds = ends (length out) (length s) (length c) end done in
       let field : Field = record { place = length s; depth = 1; kind = k; content = c } in
       let size : length (s ++ fieldBytes k c) ≡ length s + (3 + length c) = length-append s (fieldBytes k c) ∙ omega arith in
-      let short : length c < 65536 = omega (arith, bounds .limit) in
       ap sheetOf (up-to-end out (length s) k c end done ∙ ap (λ (l : List ℕ). l ++ fieldBytes k c) stands)
       ∙ ap (λ (far : Bool). cond far (Refused Refusal.Oversize 0) (runOf 1 0 (s ++ fieldBytes k c))) (le-ltb sheetLimit (length (s ++ fieldBytes k c)) (omega (arith, bounds .limit)))
       ∙ append 1 0 s (fieldBytes k c) fs (top-run s fs legal)
       ∙ ap (λ (p : ℕ). Fields fs andThen runOf 1 p (fieldBytes k c)) (omega arith)
       ∙ ap (λ (x : Scan). Fields fs andThen x)
-      (one-field 1 (length s) k c short long (at-top k) ∙ ap (λ (x : Scan). Fields (field ∷ []) andThen x) within)
+      (run-one 1 (length s) k c long (at-top k) ∙ ap (λ (x : Scan). Fields (field ∷ []) andThen x) within)
 
   pub word-added : (w : ℕ) → writeOf out (length s) FieldKind.Word (wordBytes w) .answer ≡ Written.End end
       → sheetOf (take end (writeOf out (length s) FieldKind.Word (wordBytes w) .buffer))

@@ -10,13 +10,14 @@ use lib.ListN.{length, getD, take, drop, length-append, length-drop, List·getD-
 use lib.Seq.{length-take-le, take-at, drop-at, drop-drop, take-append-seam, getD-append-add, getD-take, getD-drop}
 use Rattle.refusals.specs.declared.Refusal.{Refusal}
 use Rattle.fields.specs.declared.FieldKind.{FieldKind}
+use Rattle.fields.specs.Start.{fieldBytes}
 use Rattle.fields.specs.Run.{Field, Scan, Fields, Refused, insideOf}
 use Rattle.bits.specs.Complement.{Holds}
 use Rattle.contents.specs.declared.WordIn.{WordIn}
 use Rattle.contents.specs.declared.FigureIn.{FigureIn}
 use Rattle.contents.specs.Contents.{wordBytes, figureBytes, wordIn, figureIn, word-read, figure-read}
 use Rattle.writer.specs.declared.Written.{Written}
-use Rattle.writer.specs.Write.{fieldBytes, bufferOf, writeOf, unlessRefused, groupOf}
+use Rattle.writer.specs.Write.{bufferOf, writeOf, unlessRefused, groupOf}
 use Rattle.writer.specs.Answers.{Ends, ends}
 
 -- on a refusal the buffer is as it stood

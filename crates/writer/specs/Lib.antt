@@ -1,6 +1,5 @@
 -- Writing a field. Assumes nothing.
 pub mod Write
 pub mod Answers
-pub mod OneField
 pub mod Buffer
 pub mod Added

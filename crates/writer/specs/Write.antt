@@ -1,24 +1,15 @@
 -- Writing one field at a place of a buffer, as document 01 has it: 15 if its end passes 32,768, else 13 if it passes the buffer, else only the field's bytes change.
 -- Assumes nothing.
 use mathlib.Core.Bool.{cond}
-use mathlib.Core.List.{List, _∷_, _++_}
+use mathlib.Core.List.{List, _++_}
 use Prim.Native.Nat.{ℕ, _+_}
 use lib.Dec.{ltb}
 use lib.ListN.{length, take, drop}
 use Rattle.refusals.specs.declared.Refusal.{Refusal}
 use Rattle.fields.specs.declared.FieldKind.{FieldKind}
-use Rattle.fields.specs.Start.{tagOf}
+use Rattle.fields.specs.Start.{tagOf, tagged}
 use Rattle.fields.specs.Run.{Scan, Fields, Refused, sheetLimit, insideOf}
-use Rattle.contents.specs.BigEndian.{bigEndian}
 use Rattle.writer.specs.declared.Written.{Written}
-
--- a tag, the length of the content in two bytes, high first, and the content
-abbrev pub tagged : ℕ → List ℕ → List ℕ
-tagged t c = t ∷ bigEndian 2 (length c) ++ c
-
--- the bytes of a field
-abbrev pub fieldBytes : FieldKind → List ℕ → List ℕ
-fieldBytes k c = tagged (tagOf k) c
 
 -- a content of n bytes at a place of a buffer of `room` bytes: the place after the field, or the refusal
 abbrev pub answerOf : (room place n : ℕ) → Written

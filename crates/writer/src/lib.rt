@@ -3,12 +3,13 @@ use refusals::Refusal;
 use sheet::Checked;
 ghost use mathlib.Core.Path.{_≡_};
 ghost use mathlib.Core.List.{_++_};
-ghost use Prim.Native.Nat.{_+_, _≤_};
+ghost use Prim.Native.Nat.{_+_, _≤_, _<_};
 ghost use lib.ListN.{length, take, drop};
 ghost use lib.Seq.{paste};
 ghost use Rattle.fields.specs.declared.FieldKind.{FieldKind};
 ghost use Rattle.contents.specs.Contents.{wordBytes, figureBytes};
-ghost use Rattle.writer.specs.Write.{tagged, answerOf, put, writeOf, groupOf};
+ghost use Rattle.fields.specs.Start.{tagged};
+ghost use Rattle.writer.specs.Write.{answerOf, put, writeOf, groupOf};
 
 // What came of writing a field.
 pub enum Written {
@@ -55,12 +56,12 @@ fn copy_to(out: &mut [u8], at: usize, content: &[u8])
 
 // Stores a tag, a length, high byte first, and the content.
 fn store(out: &mut [u8], place: usize, tag: u8, content: &[u8])
-    requires { ⌜ place + 3 + length (now content) ≤ length (now out) ⌝ }
+    requires { ⌜ (place + 3 + length (now content) ≤ length (now out)) × (length (now content) < 0x10000) ⌝ }
     ensures { λ _. ⌜ now (out .exit) ≡ take place (now (out .entry)) ++ tagged tag (now (content .entry)) ++ drop (place + 3 + length (now (content .entry))) (now (out .entry)) ⌝ }
 {
     let length = content.len();
     out[place] = tag;
-    out[place + 1] = (length / 256 % 256) as u8;
+    out[place + 1] = (length / 256) as u8;
     out[place + 2] = (length % 256) as u8;
     copy_to(out, place + 3, content);
 }

@@ -3,8 +3,8 @@
 use native.Mathlib.Omega.{arith}
 use Rattle.walk.specs.Stands.{left}
 use Rattle.text.specs.Writing.{length-kept}
-use Rattle.totals.specs.Counting.{field-fits}
-use Rattle.listing.specs.Loop.{Going, going-from-start, going-on, with-total, with-refusal}
+use Rattle.walk.specs.Fold.{field-ends, fewer-left, few-below}
+use Rattle.listing.specs.Loop.{Going, going-starts, going-on, with-total, with-refusal}
 use borrow.Author.Needs.{needs}
 use Rattle.listing.proofs.put_listing.Statement.{statement}
 use Rattle.listing.proofs.put_listing.Tie as tie
@@ -19,7 +19,7 @@ start-requires : tie.Need-start-requires Inv-loop μ-loop
 start-requires c κs = search needs
 
 loop-holds : tie.Need-loop-holds Inv-loop μ-loop
-loop-holds c = going-from-start (c .before .before .before .args .sheet .now) (c .before .before .before .args .out .now) (c .start .result) (omega arith) (c .start .ensures)
+loop-holds c = going-starts _ _ _ (omega arith) (c .start .ensures)
 
 step-requires : tie.Need-step-requires Inv-loop μ-loop
 step-requires c κs = search needs
@@ -29,22 +29,20 @@ enum-known-given c = search needs
 
 put-field-requires : tie.Need-put-field-requires Inv-loop μ-loop
 put-field-requires c κs =
+    let s = c .before .before .before .before .before .before .before .before .before .args .sheet .now in
     let loop = c .before .before .before .before .before .loop in
-    let step = c .before .before .before .before .step in
-    let fits = field-fits (c .before .before .before .before .before .before .before .before .before .args .sheet .now) (loop .walk) _ _ (step .result) (loop .inv .counting) (step .ensures) (c .before .before .given .given .0 .0) (c .before .before .given .given .1) in
-    (fits .0, (omega (arith, fits .2), omega (arith, fits .3)))
+    let found = c .before .before .before .before .step .ensures in
+    let told = c .before .before .given .given .1 in
+    (field-ends s (loop .walk) found told, (omega (arith, few-below s (loop .walk) found told (loop .inv .few)), omega (arith, few-below s (loop .walk) found told (loop .inv .fewer))))
 
 loop-less : tie.Need-loop-less Inv-loop μ-loop
 loop-less c =
-    let loop = c .before .before .before .before .before .before .before .before .loop in
-    let step = c .before .before .before .before .before .before .before .step in
-    field-fits (c .before .before .before .before .before .before .before .before .before .before .before .before .args .sheet .now) (loop .walk) _ _ (step .result) (loop .inv .counting) (step .ensures) (c .before .before .before .before .before .given .given .0 .0) (c .before .before .before .before .before .given .given .1) .1
+    fewer-left (c .before .before .before .before .before .before .before .before .before .before .before .before .args .sheet .now) (c .before .before .before .before .before .before .before .before .loop .walk)
+    (c .before .before .before .before .before .before .before .step .ensures) (c .before .before .before .before .before .given .given .1)
 
 loop-again : tie.Need-loop-again Inv-loop μ-loop
 loop-again c =
-    let loop = c .before .before .before .before .before .before .before .before .loop in
-    let step = c .before .before .before .before .before .before .before .step in
-    going-on (c .before .before .before .before .before .before .before .before .before .before .before .before .args .sheet .now) _ _ (loop .walk) (loop .progress) (step .result) (loop .inv) (step .ensures) (c .before .before .before .before .before .given .given .0 .0) _ (c .before .before .put-field .result) (c .before .before .before .before .before .given .given .1) (c .before .before .put-field .ensures)
+    going-on _ _ _ _ _ _ (c .before .before .before .before .before .before .before .before .loop .inv) (c .before .before .before .before .before .before .before .step .ensures) _ _ _ (c .before .before .before .before .before .given .given .1) (c .before .before .put-field .ensures)
 
 enum-known-given-2 : tie.Need-enum-known-given-2 Inv-loop μ-loop
 enum-known-given-2 c = search needs
@@ -54,9 +52,7 @@ put-refusal-line-requires c κs = search needs
 
 returns : tie.Need-returns Inv-loop μ-loop
 returns c =
-    let loop = c .before .before .before .before .before .before .before .before .loop in
-    let step = c .before .before .before .before .before .before .before .step in
-    with-refusal (c .before .before .before .before .before .before .before .before .before .before .before .before .args .sheet .now) _ _ (loop .walk) (loop .progress) (step .result) (loop .inv) (step .ensures) (c .before .before .before .before .before .given2 .given .0 .0) (c .before .before .before .before .before .given2 .given .0 .1 .0) (c .before .before .before .before .before .given2 .given .1) _ _ (c .before .before .put-refusal-line .ensures)
+    with-refusal _ _ _ _ _ _ (c .before .before .before .before .before .before .before .before .loop .inv) (c .before .before .before .before .before .before .before .step .ensures) _ _ (c .before .before .before .before .before .given2 .given .1) _ _ (c .before .before .put-refusal-line .ensures)
 
 same-length : tie.Need-same-length Inv-loop μ-loop
 same-length c = length-kept (returns c)
@@ -69,9 +65,7 @@ put-total-line-requires c κs = search needs
 
 returns-2 : tie.Need-returns-2 Inv-loop μ-loop
 returns-2 c =
-    let loop = c .before .before .before .before .before .before .before .loop in
-    let step = c .before .before .before .before .before .before .step in
-    with-total (c .before .before .before .before .before .before .before .before .before .before .before .args .sheet .now) _ _ (loop .walk) (loop .progress) (step .result) (loop .inv) (step .ensures) (c .before .before .before .before .enum-told .given .1) _ _ (c .before .before .put-total-line .ensures)
+    with-total _ _ _ _ _ _ (c .before .before .before .before .before .before .before .loop .inv) (c .before .before .before .before .before .before .step .ensures) (c .before .before .before .before .enum-told .given .1) _ _ (c .before .before .put-total-line .ensures)
 
 same-length-2 : tie.Need-same-length-2 Inv-loop μ-loop
 same-length-2 c = length-kept (returns-2 c)

@@ -1,17 +1,15 @@
 -- The walk goes on until the note, the end or the refusal decides (`Search`); each step leaves fewer bytes.
 -- Assumes nothing.
-use mathlib.Core.Path.{_≡_, sym, ap, subst, _∙_}
+use mathlib.Core.Path.{_≡_, sym, ap, _∙_}
 use mathlib.Core.Bool.{true}
-use Prim.Native.Nat.{_+_, _≤_, _<_}
+use Prim.Native.Nat.{_+_, _≤_}
 use native.Mathlib.Omega.{arith}
 use lib.ListN.{length}
 use borrow.Author.Needs.{needs}
-use Rattle.walk.specs.declared.Walk.{Walk}
-use Rattle.walk.specs.declared.Given.{Given}
-use Rattle.walk.specs.declared.WalkStep.{WalkStep}
-use Rattle.walk.specs.Step.{stepOf}
-use Rattle.walk.specs.Stands.{left, advances}
-use Rattle.notes.proofs.Search.{Seeking, seek-start, seek-end, seek-refused, seek-fits, seek-found, seek-on}
+use Rattle.walk.specs.Stands.{left}
+use Rattle.walk.specs.Fold.{loop-starts, loop-ends, loop-refused, fewer-left}
+use Rattle.notes.specs.Note.{foundOf}
+use Rattle.notes.proofs.Search.{Seeking, seek-fits, seek-found, seek-on}
 use Rattle.notes.proofs.find_note.Statement.{statement}
 use Rattle.notes.proofs.find_note.Tie as tie
 
@@ -21,24 +19,18 @@ Inv-loop sheet place at₀ at = Seeking sheet place at
 abbrev μ-loop : tie.MeasureT-loop
 μ-loop sheet place at₀ at = left sheet at
 
--- what the step gave, and that a note's text then ends within the sheet
-given-field : (c : tie.After-is-note-at Inv-loop μ-loop)
-    → stepOf (c .before .before .before .before .before .before .before .before .args .sheet .now) (c .before .before .before .before .before .loop .at) .given
-    ≡ Given.Field (c .before .before .given2 .given .0 .0)
-given-field c = sym (ap (λ (x : WalkStep). x .given) (c .before .before .before .before .step .ensures)) ∙ c .before .before .given2 .given .1
-
+-- a note's text ends within the sheet
 note-fits : (c : tie.After-is-note-at Inv-loop μ-loop) → c .is-note-at .result ≡ true
     → c .before .before .before .before .before .before .before .before .args .place + 3 + c .before .before .given2 .given .0 .0 .length
     ≤ length (c .before .before .before .before .before .before .before .before .args .sheet .now)
 note-fits c t =
-    seek-fits (c .before .before .before .before .before .before .before .before .args .sheet .now) (c .before .before .before .before .before .before .before .before .args .place)
-    (c .before .before .before .before .before .loop .at) (c .before .before .before .before .before .loop .inv) (c .before .before .given2 .given .0 .0) (given-field c) (sym (c .is-note-at .ensures) ∙ t)
+    seek-fits _ _ _ _ (c .before .before .before .before .before .loop .inv) (c .before .before .before .before .step .ensures) _ (c .before .before .given2 .given .1) (sym (c .is-note-at .ensures) ∙ t)
 
 start-requires : tie.Need-start-requires Inv-loop μ-loop
 start-requires c κs = search needs
 
 loop-holds : tie.Need-loop-holds Inv-loop μ-loop
-loop-holds c = let a = c .before .before .args in subst (Seeking (a .sheet .now) (a .place)) (sym (c .start .ensures)) (seek-start (a .sheet .now) (a .place))
+loop-holds c = loop-starts (c .start .ensures)
 
 step-requires : tie.Need-step-requires Inv-loop μ-loop
 step-requires c κs = search needs
@@ -47,19 +39,14 @@ enum-told : tie.Need-enum-told Inv-loop μ-loop
 enum-told c = search needs
 
 returns : tie.Need-returns Inv-loop μ-loop
-returns c =
-    let a = c .before .before .before .before .before .before .args in
-    let l = c .before .before .before .loop in
-    seek-end (a .sheet .now) (a .place) (l .at) (l .inv) (sym (ap (λ (x : WalkStep). x .given) (c .before .before .step .ensures)) ∙ c .enum-told .given .1)
+returns c = ap (foundOf (c .before .before .before .before .before .before .args .place)) (loop-ends (c .before .before .before .loop .inv) (c .before .before .step .ensures) (c .enum-told .given .1))
 
 enum-known-given : tie.Need-enum-known-given Inv-loop μ-loop
 enum-known-given c = search needs
 
 returns-2 : tie.Need-returns-2 Inv-loop μ-loop
 returns-2 c =
-    let a = c .before .before .before .before .before .before .before .args in
-    let l = c .before .before .before .before .loop in
-    seek-refused (a .sheet .now) (a .place) (l .at) (l .inv) _ _ (sym (ap (λ (x : WalkStep). x .given) (c .before .before .before .step .ensures)) ∙ c .before .given .given .1)
+    ap (foundOf (c .before .before .before .before .before .before .before .args .place)) (loop-refused (c .before .before .before .before .loop .inv) (c .before .before .before .step .ensures) (c .before .given .given .1))
 
 enum-known-given-2 : tie.Need-enum-known-given-2 Inv-loop μ-loop
 enum-known-given-2 c = search needs
@@ -76,26 +63,17 @@ add-t12 c = let fits = note-fits (c .before .before) (c .before .if1 .taken) in 
 returns-3 : tie.Need-returns-3 Inv-loop μ-loop
 returns-3 c =
     let h = c .before .before in
-    seek-found (h .before .before .before .before .before .before .before .before .args .sheet .now) (h .before .before .before .before .before .before .before .before .args .place)
-    (h .before .before .before .before .before .loop .at) (h .before .before .before .before .before .loop .inv) (h .before .before .given2 .given .0 .0) (given-field h)
-    (sym (h .is-note-at .ensures) ∙ c .before .if1 .taken)
+    seek-found _ _ _ _ (h .before .before .before .before .before .loop .inv) (h .before .before .before .before .step .ensures) _ (h .before .before .given2 .given .1) (sym (h .is-note-at .ensures) ∙ c .before .if1 .taken)
 
 loop-less : tie.Need-loop-less Inv-loop μ-loop
 loop-less c =
-    let h = c .before in
-    let s = h .before .before .before .before .before .before .before .before .args .sheet .now in
-    let w = h .before .before .before .before .before .loop .at in
-    subst (λ (v : Walk). left s v < left s w) (sym (ap (λ (x : WalkStep). x .next) (h .before .before .before .before .step .ensures)))
-    (advances s w (h .before .before .given2 .given .0 .0) (given-field h) .less)
+    fewer-left (c .before .before .before .before .before .before .before .before .before .args .sheet .now) (c .before .before .before .before .before .before .loop .at)
+    (c .before .before .before .before .before .step .ensures) (c .before .before .before .given2 .given .1)
 
 loop-again : tie.Need-loop-again Inv-loop μ-loop
 loop-again c =
     let h = c .before in
-    let s = h .before .before .before .before .before .before .before .before .args .sheet .now in
-    let p = h .before .before .before .before .before .before .before .before .args .place in
-    let l = h .before .before .before .before .before .loop in
-    subst (Seeking s p) (sym (ap (λ (x : WalkStep). x .next) (h .before .before .before .before .step .ensures)))
-    (seek-on s p (l .at) (l .inv) (h .before .before .given2 .given .0 .0) (given-field h) (sym (h .is-note-at .ensures) ∙ c .if1 .left))
+    seek-on _ _ _ _ (h .before .before .before .before .before .loop .inv) (h .before .before .before .before .step .ensures) _ (h .before .before .given2 .given .1) (sym (h .is-note-at .ensures) ∙ c .if1 .left)
 
 pub find-note-spec : {M : Type 1} → statement M
 find-note-spec =

@@ -2,9 +2,11 @@
 -- Assumes nothing.
 use mathlib.Core.Path.{_≡_, sym, ap, _∙_}
 use Prim.Native.Nat.{ℕ}
+use native.Mathlib.Omega.{arith}
 use lib.ListN.{length}
 use Rattle.writer.specs.declared.Written.{Written}
-use Rattle.writer.specs.Write.{tagged, answerOf, bufferOf}
+use Rattle.fields.specs.Start.{tagged}
+use Rattle.writer.specs.Write.{answerOf, bufferOf}
 use Rattle.writer.specs.Answers.{ends}
 use borrow.Author.Needs.{needs}
 use Rattle.writer.proofs.put_field.Statement.{statement}
@@ -19,8 +21,9 @@ enum-known-end c = search needs
 store-requires : tie.Need-store-requires
 store-requires c κs =
     let s = c .before .before .before .before .before .before .before .args in
-    let told : answerOf (length (s .out .now)) (s .place) (length (s .content .now)) ≡ Written.End (c .before .before .end .given .0 .0) = cc in
-    ends (length (s .out .now)) (s .place) (length (s .content .now)) _ told .space
+    let told : answerOf (length (s .out .now)) (s .place) (length (s .content .now)) ≡ Written.End (c .before .before .end .given .0 .0) = sym (c .before .before .before .before .end-of .ensures) ∙ c .before .before .end .given .1 in
+    let bounds = ends (length (s .out .now)) (s .place) (length (s .content .now)) _ told in
+    (bounds .space, omega (arith, bounds .limit))
 
 enum-known-refusal : tie.Need-enum-known-refusal
 enum-known-refusal c = search needs
@@ -32,7 +35,7 @@ returns : tie.Need-returns
 returns c =
     let s = c .before .before .before .before .before .before .before .before .before .before .args in
     let end : ℕ = c .before .before .before .before .before .end .given .0 .0 in
-    let told : answerOf (length (s .out .now)) (s .place) (length (s .content .now)) ≡ Written.End end = cc in
+    let told : answerOf (length (s .out .now)) (s .place) (length (s .content .now)) ≡ Written.End end = sym (c .before .before .before .before .before .before .before .end-of .ensures) ∙ c .before .before .before .before .before .end .given .1 in
     let at = ends (length (s .out .now)) (s .place) (length (s .content .now)) end told .at in (
       sym told,
       c .before .before .store .ensures
@@ -42,7 +45,7 @@ returns c =
 returns-2 : tie.Need-returns-2
 returns-2 c =
     let s = c .before .before .before .before .before .before .args in
-    let told : answerOf (length (s .out .now)) (s .place) (length (s .content .now)) ≡ Written.Refused (c .before .refusal .given .0 .0) (c .before .refusal .given .0 .1 .0) = cc in
+    let told : answerOf (length (s .out .now)) (s .place) (length (s .content .now)) ≡ Written.Refused (c .before .refusal .given .0 .0) (c .before .refusal .given .0 .1 .0) = sym (c .before .before .before .end-of .ensures) ∙ c .before .refusal .given .1 in
     (sym told, ap (λ (w : Written). bufferOf w (s .out .now) (s .place) (tagged (s .tag) (s .content .now))) (sym told))
 
 pub put-field-spec : {M : Type 1} → statement M

@@ -2,7 +2,6 @@
 -- Assumes nothing.
 use mathlib.Core.Path.{_∙_}
 use Prim.Native.Nat.{ℕ, _/_, _%_}
-use native.Mathlib.Nat.{div-one}
 use native.Mathlib.Omega.{arith}
 use lib.ListN.{length, length-set}
 use Rattle.writer.proofs.Stores.{stored}
@@ -45,7 +44,7 @@ returns c =
     let s = c .before .before .before .before .before .before .args in
     let n : ℕ = length (s .content .now) in
     c .before .before .copy-to .ensures
-    ∙ simp div-one (stored (s .out .now) (s .place) (s .tag) (n / 256 % 256) (n % 256) (omega arith) (s .content .now))
+    ∙ stored (s .out .now) (s .place) (s .tag) (n / 256) (n % 256) (omega arith) (s .content .now)
 
 pub store-spec : {M : Type 1} → statement M
 store-spec =

@@ -29,7 +29,7 @@ same-length c = search needs
 returns : tie.Need-returns
 returns c =
     let s = c .before .before .before .before .before .before .before .before .before .args in
-    let told : checkedOf (insideOf (s .run .now)) ≡ Checked.Legal = cc in
+    let told : checkedOf (insideOf (s .run .now)) ≡ Checked.Legal = sym (c .before .before .before .before .before .before .check-inside .ensures) ∙ c .before .before .before .before .enum-told .given .1 in
     let same = legal-run (insideOf (s .run .now)) (s .out .now) (writeOf (s .out .now) (s .place) FieldKind.Group (s .run .now)) told in (
       c .before .before .put-field .ensures .0 ∙ ap (λ (w : Write). w .answer) (sym same),
       c .before .before .put-field .ensures .1 ∙ ap (λ (w : Write). w .buffer) (sym same),
@@ -38,7 +38,7 @@ returns c =
 returns-2 : tie.Need-returns-2
 returns-2 c =
     let s = c .before .before .before .before .before .before .args in
-    let told : checkedOf (insideOf (s .run .now)) ≡ Checked.Refused (c .before .refusal .given .0 .0) (c .before .refusal .given .0 .1 .0) = cc in
+    let told : checkedOf (insideOf (s .run .now)) ≡ Checked.Refused (c .before .refusal .given .0 .0) (c .before .refusal .given .0 .1 .0) = sym (c .before .before .before .check-inside .ensures) ∙ c .before .refusal .given .1 in
     let same = refused-run (insideOf (s .run .now)) (s .out .now) (writeOf (s .out .now) (s .place) FieldKind.Group (s .run .now)) _ _ told in
     (ap (λ (w : Write). w .answer) (sym same), ap (λ (w : Write). w .buffer) (sym same))
 
