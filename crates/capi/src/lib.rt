@@ -2,12 +2,12 @@
 use flat_contents::FlatFigure;
 use flat_contents::FlatNote;
 use flat_figures::FlatMillionths;
-use flat_reassembly::FlatStep;
-use flat_reassembly::Partial;
 use flat_listing::FlatListed;
 use flat_places::FlatPlace;
 use flat_readings::FlatPoint;
 use flat_readings::FlatReading;
+use flat_reassembly::FlatStep;
+use flat_reassembly::Partial;
 use flat_records::FlatRecord;
 use flat_walks::FlatWalk;
 use flat_walks::FlatWalked;

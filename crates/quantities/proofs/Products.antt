@@ -1,11 +1,15 @@
 -- A sound scale's numbers are small enough that the products of the code fit 64 bits.
 use mathlib.Core.Bool.{Bool, true, false}
-use Prim.Native.Nat.{ℕ, _+_, _*_, _≤_, _^_}
+use Prim.Native.Nat.{ℕ, _+_, _*_, _≤_, _<_, _^_}
 use native.Mathlib.Nat.{le-trans, mul-le-mul, div-le-self}
 use native.Mathlib.Omega.{arith}
 use Rattle.quantities.specs.declared.Scale.{Scale}
 use Rattle.quantities.specs.Scale.{Sound, lastCount, widest}
 use Rattle.quantities.specs.Nearest.{reach}
+
+-- the step is above 0
+pub step-positive : (s : Scale) → Sound s → 0 < s .numerator
+step-positive s k = omega (arith, k .longer)
 
 pub last-within : (s : Scale) → Sound s → (negative : Bool) → lastCount s negative ≤ widest negative
 last-within s k false = k .above-small

@@ -1,11 +1,11 @@
 // MLS auxiliary data: the words of group C, labels 140 to 143, put together.
 use decode::Decoded;
+use labels::Lookup;
 use reassembly_parts::Answer;
 use reassembly_parts::Group;
 use reassembly_parts::Part;
 use reassembly_parts::Reassembly;
 use reassembly_parts::Step;
-use labels::Lookup;
 use records::Kind;
 use refusals::Refusal;
 ghost use mathlib.Core.Path.{_≡_};

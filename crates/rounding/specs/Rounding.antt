@@ -1,8 +1,10 @@
 -- Rounding half to even: a whole number over a divisor, to the nearest whole number, a tie to the even one.
-use mathlib.Core.Path.{_≡_}
+use mathlib.Core.Path.{_≡_, refl}
 use mathlib.Core.Bool.{cond}
-use Prim.Native.Nat.{ℕ, _+_, _-_, _*_, _/_, _%_, _≤_}
-use lib.Dec.{ltb}
+use Prim.Native.Nat.{ℕ, _+_, _-_, _*_, _/_, _%_, _≤_, _<_}
+use native.Mathlib.Omega.{arith}
+use borrow.Author.Tests.{ne-eqb}
+use lib.Dec.{ltb, eqb}
 use lib.IntN.{ℤ, pos, natAbs, _-ℤ_, _*ℤ_}
 use Rattle.rounding.specs.Parts.{isNegative, signed}
 
@@ -12,6 +14,13 @@ roundEven n d =
     cond (ltb (n % d) (d - n % d)) (n / d)
     (cond (ltb (d - n % d) (n % d)) (n / d + 1)
     (n / d + n / d % 2))
+
+-- n over any d: nothing is rounded over 0, and the answer there is 0
+abbrev pub roundedOver : ℕ → ℕ → ℕ
+roundedOver n d = cond (eqb d 0) 0 (roundEven n d)
+
+pub rounded-over : (n d : ℕ) → 0 < d → roundedOver n d ≡ roundEven n d
+rounded-over n d h = rw (ne-eqb d 0 (λ e. omega arith)) refl
 
 -- a signed number over d: its size is rounded, and its sign kept
 unfoldable pub roundEvenℤ : ℤ → ℕ → ℤ

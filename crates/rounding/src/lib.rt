@@ -1,9 +1,9 @@
 ghost use mathlib.Core.Path.{_≡_};
 ghost use Prim.Native.Nat.{_<_};
-ghost use Rattle.rounding.specs.Rounding.{roundEven};
+ghost use Rattle.rounding.specs.Rounding.{roundEven, roundedOver};
 
-// n over d rounded to the nearest whole number, a tie to the even one.
-pub fn round_half_even(n: u64, d: u64) -> u64
+// n over a divisor d that is not 0, rounded to the nearest whole number, a tie to the even one.
+fn round_over(n: u64, d: u64) -> u64
     requires { ⌜ 0 < d ⌝ }
     ensures { λ r. ⌜ r ≡ roundEven n d ⌝ }
 {
@@ -12,4 +12,14 @@ pub fn round_half_even(n: u64, d: u64) -> u64
     let rest = d - remainder;
     let tie = (remainder == rest) & (quotient % 2 == 1);
     quotient + ((rest < remainder) | tie) as u64
+}
+
+// n over d rounded to the nearest whole number, a tie to the even one; 0 where d is 0.
+pub fn round_half_even(n: u64, d: u64) -> u64
+    ensures { λ r. ⌜ r ≡ roundedOver n d ⌝ }
+{
+    if d == 0 {
+        return 0;
+    }
+    round_over(n, d)
 }

@@ -1,8 +1,8 @@
 // Hands the words of a file one after the other to a reassembler, and compares each answer with the one that stands beside the word.
+use libc::STDOUT_FILENO;
 use reassembly::Reassembler;
 use reassembly::WordAnswer;
 use reassembly_parts::Reassembly;
-use libc::STDOUT_FILENO;
 
 // The lines read so far: how many, how many of them are wrong, and the first wrong one with its ends in the text.
 struct Progress {

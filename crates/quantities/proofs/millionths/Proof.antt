@@ -12,7 +12,7 @@ use Rattle.quantities.specs.declared.Quantity.{Quantity}
 use Rattle.quantities.specs.declared.Scale.{Scale}
 use Rattle.rounding.specs.Laws.{round-at-most}
 use Rattle.rounding.specs.Parts.{isNegative, signed}
-use Rattle.rounding.specs.Rounding.{roundEven}
+use Rattle.rounding.specs.Rounding.{roundEven, rounded-over}
 use Rattle.quantities.proofs.Products.{count-product}
 use Rattle.quantities.proofs.Signed.{widened, count-size}
 use Rattle.quantities.specs.Scale.{Sound, sound, scaleOf}
@@ -42,7 +42,7 @@ mul-round-half-even c =
     (arith, product (c .before .scale-of .result) (start .args .quantity) (c .before .scale-of .ensures) (start .args .count) (start .fits .count) (c .magnitude .result) (c .magnitude .ensures))
 
 round-half-even-requires : tie.Need-round-half-even-requires
-round-half-even-requires c κs = sound-scale (c .before .scale-of .result) (c .before .before .args .quantity) (c .before .scale-of .ensures) .divisor
+round-half-even-requires c κs = search needs
 
 is-negative-requires : tie.Need-is-negative-requires
 is-negative-requires c κs = search needs
@@ -53,7 +53,7 @@ with-sign-requires c κs =
     let scale = c .before .before .before .scale-of in
     let size = c .before .before .magnitude in
     omega
-    (arith, c .before .round-half-even .ensures, round-at-most (size .result * scale .result .numerator) (scale .result .denominator), product (scale .result) (start .args .quantity) (scale .ensures) (start .args .count) (start .fits .count) (size .result) (size .ensures))
+    (arith, c .before .round-half-even .ensures ∙ rounded-over _ _ (sound-scale (scale .result) (start .args .quantity) (scale .ensures) .divisor), round-at-most (size .result * scale .result .numerator) (scale .result .denominator), product (scale .result) (start .args .quantity) (scale .ensures) (start .args .count) (start .fits .count) (size .result) (size .ensures))
 
 printed : (q : Quantity) {z y : ℤ} {s : Scale} {m r : ℕ} {n : Bool} {w : ℤ} → y ≡ z → s ≡ scaleOf q → m ≡ natAbs y → r ≡ roundEven (m * s .numerator) (s .denominator) → n ≡ isNegative y → w ≡ signed n r → w ≡ millionthsOf q z
 unfolding millionthsOf
@@ -62,8 +62,9 @@ printed q e scale size rounded sign number = cc
 returns : tie.Need-returns
 returns c =
     let start = c .before .before .before .before .before in
+    let scale = c .before .before .before .before .scale-of in
     toZ-ofZ {w = w64} {z = c .with-sign .result} (search needs)
-    ∙ printed (start .args .quantity) (widened (start .args .count) (start .fits .count)) (c .before .before .before .before .scale-of .ensures) (c .before .before .before .magnitude .ensures) (c .before .before .round-half-even .ensures) (c .before .is-negative .ensures) (c .with-sign .ensures)
+    ∙ printed (start .args .quantity) (widened (start .args .count) (start .fits .count)) (scale .ensures) (c .before .before .before .magnitude .ensures) (c .before .before .round-half-even .ensures ∙ rounded-over _ _ (sound-scale (scale .result) (start .args .quantity) (scale .ensures) .divisor)) (c .before .is-negative .ensures) (c .with-sign .ensures)
 
 pub millionths-spec : {M : Type 1} → statement M
 millionths-spec =

@@ -5,10 +5,11 @@ use Prim.Native.Nat.{ℕ, _*_, _≤_, _^_}
 use native.Mathlib.Omega.{arith}
 use borrow.Author.Needs.{needs}
 use mir.Facts.{toZ-ofZ}
+use Rattle.rounding.specs.Rounding.{rounded-over}
 use Rattle.quantities.specs.declared.Nearest.the-variants.{Count}
 use Rattle.quantities.specs.Nearest.{farthest, wrap}
 use Rattle.quantities.specs.Cases.{circle-within, circle-beyond}
-use Rattle.quantities.proofs.Products.{size-product}
+use Rattle.quantities.proofs.Products.{step-positive, size-product}
 use Rattle.quantities.proofs.nearest_on_circle.Statement.{statement}
 use Rattle.quantities.proofs.nearest_on_circle.Tie as tie
 
@@ -42,7 +43,7 @@ returns-2 c =
     ap Count
     (toZ-ofZ (search needs)
     ∙ c .wrapped .ensures
-    ∙ ap (wrap (a .scale) (a .negative)) (c .before .round-half-even .ensures))
+    ∙ ap (wrap (a .scale) (a .negative)) (c .before .round-half-even .ensures ∙ rounded-over _ _ (step-positive (a .scale) (c .before .before .before .before .pre))))
     ∙ sym (circle-within (a .scale) (a .negative) (a .size) (rw (c .before .before .before .farthest-azimuth .ensures) at (c .before .before .if1 .left)))
 
 pub nearest-on-circle-spec : {M : Type 1} → statement M

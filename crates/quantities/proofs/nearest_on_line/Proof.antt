@@ -5,11 +5,12 @@ use native.Mathlib.Nat.{le-trans}
 use native.Mathlib.Omega.{arith}
 use borrow.Author.Needs.{needs}
 use Rattle.rounding.specs.Parts.{signed}
+use Rattle.rounding.specs.Rounding.{rounded-over}
 use Rattle.quantities.specs.declared.Nearest.the-variants.{Count}
 use Rattle.quantities.specs.Scale.{lastCount}
 use Rattle.quantities.specs.Nearest.{reach}
 use Rattle.quantities.specs.Cases.{line-within, line-beyond}
-use Rattle.quantities.proofs.Products.{last-within, last-small, reach-product, reach-small, size-product}
+use Rattle.quantities.proofs.Products.{step-positive, last-within, last-small, reach-product, reach-small, size-product}
 use Rattle.quantities.proofs.Signed.{count-back}
 use Rattle.quantities.proofs.nearest_on_line.Statement.{statement}
 use Rattle.quantities.proofs.nearest_on_line.Tie as tie
@@ -66,7 +67,7 @@ returns-2 c =
     (count-back (c .count-with-sign .result) (a .negative) (c .before .smaller .result)
     (count-with-sign-requires (c .before) _)
     (c .count-with-sign .ensures)
-    ∙ ap (signed (a .negative)) (c .before .smaller .ensures ∙ ap₂ min (c .before .before .round-half-even .ensures) last))
+    ∙ ap (signed (a .negative)) (c .before .smaller .ensures ∙ ap₂ min (c .before .before .round-half-even .ensures ∙ rounded-over _ _ (step-positive (a .scale) (c .before .before .before .before .before .pre))) last))
     ∙ sym (line-within (a .scale) (a .negative) (a .size) (rw last at (c .before .before .before .if1 .left)))
 
 pub nearest-on-line-spec : {M : Type 1} → statement M
