@@ -10,7 +10,7 @@ use lib.Signed.{ltZ, nonNeg, natAbs-le}
 use mir.Syntax.{w16, w64}
 use mir.Val.{SFits, toZ, ofZ}
 use mir.Facts.{toZ-ofZ, toZ-pos, sfits-widen}
-use Rattle.rounding.specs.Parts.{isNegative, signed}
+use Rattle.rounding.specs.Parts.{isNegative, withSign}
 use Rattle.quantities.specs.Scale.{widest}
 
 pub sign-test : (z : ℤ) → ltZ z (pos 0) ≡ isNegative z
@@ -36,12 +36,12 @@ pub not-negative : (z : ℤ) → isNegative z ≡ false → T (nonNeg z)
 not-negative (pos n) h = tt
 not-negative (negsuc n) h = clash (sym h)
 
-pub signed-fits : (negative : Bool) (size : ℕ) → size < 2 ^ 63 → SFits w64 (signed negative size)
-signed-fits false size h = record { sfits = h }
-signed-fits true zero h = record { sfits = h }
-signed-fits true (suc n) h = record { sfits = omega arith }
+pub withSign-fits : (negative : Bool) (size : ℕ) → size < 2 ^ 63 → SFits w64 (withSign negative size)
+withSign-fits false size h = record { sfits = h }
+withSign-fits true zero h = record { sfits = h }
+withSign-fits true (suc n) h = record { sfits = omega arith }
 
-pub count-fits : (negative : Bool) (size : ℕ) → size ≤ widest negative → SFits w16 (signed negative size)
+pub count-fits : (negative : Bool) (size : ℕ) → size ≤ widest negative → SFits w16 (withSign negative size)
 count-fits false size h = record { sfits = omega arith }
 count-fits true zero h = record { sfits = omega arith }
 count-fits true (suc n) h = record { sfits = omega arith }
@@ -51,14 +51,14 @@ widest-small false size h = omega arith
 widest-small true size h = omega arith
 
 -- a size subtracted from 0
-pub minus : (size : ℕ) → size < 2 ^ 63 → pos 0 -ℤ toZ w64 size ≡ signed true size
+pub minus : (size : ℕ) → size < 2 ^ 63 → pos 0 -ℤ toZ w64 size ≡ withSign true size
 minus size h = ap (λ (z : ℤ). pos 0 -ℤ z) (toZ-pos w64 h) ∙ +ℤ-idl (negℤ (pos size))
 
 -- a number that 64 bits or 16 bits hold, written and read back
-pub back : (z : ℤ) (negative : Bool) (size : ℕ) → size < 2 ^ 63 → z ≡ signed negative size → toZ w64 (ofZ w64 z) ≡ signed negative size
-back z negative size h e = ap (λ (y : ℤ). toZ w64 (ofZ w64 y)) e ∙ toZ-ofZ (signed-fits negative size h)
+pub back : (z : ℤ) (negative : Bool) (size : ℕ) → size < 2 ^ 63 → z ≡ withSign negative size → toZ w64 (ofZ w64 z) ≡ withSign negative size
+back z negative size h e = ap (λ (y : ℤ). toZ w64 (ofZ w64 y)) e ∙ toZ-ofZ (withSign-fits negative size h)
 
-pub count-back : (z : ℤ) (negative : Bool) (size : ℕ) → size ≤ widest negative → z ≡ signed negative size → toZ w16 (ofZ w16 z) ≡ signed negative size
+pub count-back : (z : ℤ) (negative : Bool) (size : ℕ) → size ≤ widest negative → z ≡ withSign negative size → toZ w16 (ofZ w16 z) ≡ withSign negative size
 count-back z negative size h e = ap (λ (y : ℤ). toZ w16 (ofZ w16 y)) e ∙ toZ-ofZ (count-fits negative size h)
 
 -- a count of 16 bits, widened to 64, and its size

@@ -5,7 +5,7 @@ use Prim.Native.Nat.{ℕ, _-_, _%_, _≤_, _<_, min}
 use native.Mathlib.Omega.{arith}
 use borrow.Author.Tests.{le-leb, lt-leb}
 use lib.IntN.{ℤ, natAbs}
-use Rattle.rounding.specs.Parts.{isNegative, signed}
+use Rattle.rounding.specs.Parts.{isNegative, withSign}
 use Rattle.quantities.specs.declared.Quantity.{Quantity}
 use Rattle.quantities.specs.declared.Scale.{Scale}
 use Rattle.quantities.specs.declared.Nearest.the-variants.{Count, OutOfReach}
@@ -13,7 +13,7 @@ use Rattle.quantities.specs.Scale.{scaleOf, onCircle, lastCount}
 use Rattle.quantities.specs.Nearest.{reach, roundedCount, lineNearest, turnCounts, wrap, farthest, circleNearest, nearestCount}
 
 module _ (s : Scale) (negative : Bool) (size : ℕ) where
-  pub line-within : size ≤ reach s negative → lineNearest s negative size ≡ Count (signed negative (min (roundedCount s size) (lastCount s negative)))
+  pub line-within : size ≤ reach s negative → lineNearest s negative size ≡ Count (withSign negative (min (roundedCount s size) (lastCount s negative)))
   unfolding lineNearest
   line-within h = rw (le-leb size (reach s negative) h)
 
@@ -30,11 +30,11 @@ module _ (s : Scale) (negative : Bool) (size : ℕ) where
   circle-beyond h = rw (lt-leb size (farthest negative) h)
 
   -- here the size is a count
-  pub wrap-same : size % turnCounts s ≤ lastCount s negative → wrap s negative size ≡ signed negative (size % turnCounts s)
+  pub wrap-same : size % turnCounts s ≤ lastCount s negative → wrap s negative size ≡ withSign negative (size % turnCounts s)
   unfolding wrap
   wrap-same h = rw (le-leb (size % turnCounts s) (lastCount s negative) h)
 
-  pub wrap-other : lastCount s negative < size % turnCounts s → wrap s negative size ≡ signed (not negative) (turnCounts s - size % turnCounts s)
+  pub wrap-other : lastCount s negative < size % turnCounts s → wrap s negative size ≡ withSign (not negative) (turnCounts s - size % turnCounts s)
   unfolding wrap
   wrap-other h = rw (lt-leb (size % turnCounts s) (lastCount s negative) h)
 

@@ -9,7 +9,7 @@ use native.Mathlib.Omega.{arith}
 use lib.Dec.{leb→le, le→leb, ltb→lt, lt→ltb}
 use lib.IntN.{ℤ, pos, negsuc, negℤ, natAbs, _+ℤ_, _-ℤ_, _*ℤ_, +ℤ-assoc, +ℤ-idr, negℤ-+ℤ}
 use lib.Signed.{_≤ℤ_, _<ℤ_}
-use Rattle.rounding.specs.Parts.{le-or-lt, isNegative, signed, positivePart, negativePart, natAbs-parts, natAbs-sub, positive-neg, negative-neg, positive-add, negative-add, positive-mul, negative-mul, parts-equal}
+use Rattle.rounding.specs.Parts.{le-or-lt, isNegative, withSign, positivePart, negativePart, natAbs-parts, natAbs-sub, positive-neg, negative-neg, positive-add, negative-add, positive-mul, negative-mul, parts-equal}
 use Rattle.rounding.specs.Rounding.{Even, error, Rounded, roundEvenℤ}
 use Rattle.rounding.specs.Laws as Laws
 use Rattle.rounding.specs.Laws.{Separate, same, below, above}
@@ -35,20 +35,20 @@ pub record Circular (s : Scale) : Type 0 where
 balance : (x y : ℤ) → positivePart (x +ℤ y) + (negativePart x + negativePart y) ≡ negativePart (x +ℤ y) + (positivePart x + positivePart y)
 balance x y = omega (arith, positive-add x y, negative-add x y)
 
-signed-mul : (b : Bool) (n d : ℕ) → signed b n *ℤ pos d ≡ signed b (n * d)
-signed-mul false n d = refl
-signed-mul true zero d = ap pos (zero-mul d) ∙ sym (ap (λ (x : ℕ). negℤ (pos x)) (zero-mul d))
-signed-mul true (suc n) d = refl
+withSign-mul : (b : Bool) (n d : ℕ) → withSign b n *ℤ pos d ≡ withSign b (n * d)
+withSign-mul false n d = refl
+withSign-mul true zero d = ap pos (zero-mul d) ∙ sym (ap (λ (x : ℕ). negℤ (pos x)) (zero-mul d))
+withSign-mul true (suc n) d = refl
 
-signed-add : (b : Bool) (m n : ℕ) → signed b m +ℤ signed b n ≡ signed b (m + n)
-signed-add false m n = refl
-signed-add true m n = sym (negℤ-+ℤ (pos m) (pos n))
+withSign-add : (b : Bool) (m n : ℕ) → withSign b m +ℤ withSign b n ≡ withSign b (m + n)
+withSign-add false m n = refl
+withSign-add true m n = sym (negℤ-+ℤ (pos m) (pos n))
 
-signed-cancel : (b : Bool) (m n : ℕ) → m ≤ n → signed (not b) m +ℤ signed b n ≡ signed b (n - m)
-signed-cancel false m n h =
+withSign-cancel : (b : Bool) (m n : ℕ) → m ≤ n → withSign (not b) m +ℤ withSign b n ≡ withSign b (n - m)
+withSign-cancel false m n h =
     parts-equal (negℤ (pos m) +ℤ pos n) (pos (n - m))
     (omega (arith, balance (negℤ (pos m)) (pos n), positive-neg (pos m), negative-neg (pos m)))
-signed-cancel true m n h =
+withSign-cancel true m n h =
     parts-equal (pos m +ℤ negℤ (pos n)) (negℤ (pos (n - m)))
     (omega
     (arith, balance (pos m) (negℤ (pos n)), positive-neg (pos n), negative-neg (pos n), positive-neg (pos (n - m)), negative-neg (pos (n - m))))
@@ -133,7 +133,7 @@ module _ (s : Scale) (circular : Circular s) where
           rw (wrap-other s b count h)
           (legal-signed s (not b) (turnCounts s - count % turnCounts s) (rest-of-turn s b (count % turnCounts s) h))
 
-  wrapped-turns : (b : Bool) (count : ℕ) → (t : ℤ) × (moved (wrap s b count) t ≡ signed b count)
+  wrapped-turns : (b : Bool) (count : ℕ) → (t : ℤ) × (moved (wrap s b count) t ≡ withSign b count)
   wrapped-turns b count = go (le-or-lt (count % turnCounts s) (lastCount s b))
     where
       whole : count / turnCounts s * turnCounts s + count % turnCounts s ≡ count
@@ -142,19 +142,19 @@ module _ (s : Scale) (circular : Circular s) where
       less : count % turnCounts s < turnCounts s
       less = mod-lt count (omega arith)
 
-      go : (count % turnCounts s ≤ lastCount s b) ⊎ (lastCount s b < count % turnCounts s) → (t : ℤ) × (moved (wrap s b count) t ≡ signed b count)
+      go : (count % turnCounts s ≤ lastCount s b) ⊎ (lastCount s b < count % turnCounts s) → (t : ℤ) × (moved (wrap s b count) t ≡ withSign b count)
       go (inl h) = (
-        signed b (count / turnCounts s),
-        ap₂ (λ (x y : ℤ). x +ℤ y) (wrap-same s b count h) (signed-mul b (count / turnCounts s) (turnCounts s))
-            ∙ signed-add b (count % turnCounts s) (count / turnCounts s * turnCounts s)
-            ∙ ap (signed b) (omega (arith, whole)),
+        withSign b (count / turnCounts s),
+        ap₂ (λ (x y : ℤ). x +ℤ y) (wrap-same s b count h) (withSign-mul b (count / turnCounts s) (turnCounts s))
+            ∙ withSign-add b (count % turnCounts s) (count / turnCounts s * turnCounts s)
+            ∙ ap (withSign b) (omega (arith, whole)),
       )
       go (inr h) = (
-        signed b (count / turnCounts s + 1),
-        ap₂ (λ (x y : ℤ). x +ℤ y) (wrap-other s b count h) (signed-mul b (count / turnCounts s + 1) (turnCounts s))
-            ∙ signed-cancel b (turnCounts s - count % turnCounts s) ((count / turnCounts s + 1) * turnCounts s)
+        withSign b (count / turnCounts s + 1),
+        ap₂ (λ (x y : ℤ). x +ℤ y) (wrap-other s b count h) (withSign-mul b (count / turnCounts s + 1) (turnCounts s))
+            ∙ withSign-cancel b (turnCounts s - count % turnCounts s) ((count / turnCounts s + 1) * turnCounts s)
             (omega (arith, add-mul (count / turnCounts s) 1 (turnCounts s), one-mul (turnCounts s)))
-            ∙ ap (signed b)
+            ∙ ap (withSign b)
             (omega (arith, whole, less, add-mul (count / turnCounts s) 1 (turnCounts s), one-mul (turnCounts s))),
       )
 
@@ -196,7 +196,7 @@ module _ (s : Scale) (k : Sound s) (circular : Circular s) (figure : ℤ) where
   abbrev coded-count : ℤ
   coded-count = wrap s negative count
 
-  rounded : Rounded (figure *ℤ pos (s .denominator)) (s .numerator) (signed negative count)
+  rounded : Rounded (figure *ℤ pos (s .denominator)) (s .numerator) (withSign negative count)
   rounded = counted s k figure
 
   closest : Closest true s figure coded-count
@@ -215,10 +215,10 @@ module _ (s : Scale) (k : Sound s) (circular : Circular s) (figure : ℤ) where
       back : ℤ
       back = wrapped-turns s circular negative count .0
 
-      again : moved s circular coded-count back ≡ signed negative count
+      again : moved s circular coded-count back ≡ withSign negative count
       again = wrapped-turns s circular negative count .1
 
-      at-most : (d : ℕ) → Shortest s figure coded-count d → d ≤ gap s figure (signed negative count)
+      at-most : (d : ℕ) → Shortest s figure coded-count d → d ≤ gap s figure (withSign negative count)
       at-most d p = omega (arith, p .least back, gap-moved s circular figure coded-count back, ap (gap s figure) again)
 
   abbrev answer : Nearest

@@ -7,7 +7,7 @@ use Prim.Native.Nat.{ℕ, suc, _+_, _*_, _≤_, _<_, min}
 use native.Mathlib.Nat.{add-mul, suc-mul, one-mul, zero-mul, mul-assoc, mul-left-comm, mul-le-mul-right, le-div-iff-mul-le, div-lt-iff-lt-mul, min-eq-left, min-eq-right, le-of-lt, le-refl, eq-of-mul-eq-mul-right}
 use native.Mathlib.Omega.{arith}
 use lib.IntN.{ℤ, pos, natAbs, _*ℤ_}
-use Rattle.rounding.specs.Parts.{le-or-lt, isNegative, signed}
+use Rattle.rounding.specs.Parts.{le-or-lt, isNegative, withSign}
 use Rattle.rounding.specs.Rounding.{Rounded}
 use Rattle.rounding.specs.Laws as Laws
 use Rattle.quantities.specs.declared.Scale.{Scale}
@@ -43,7 +43,7 @@ module _ (s : Scale) (k : Sound s) (figure : ℤ) where
       omega
       (arith, near, beyond-reach h, gap-sides s figure c, mul-le-mul-right (s .numerator) (legal-side s c l negative))
 
-  rounded : Rounded (figure *ℤ pos (s .denominator)) (s .numerator) (signed negative (roundedCount s (natAbs figure)))
+  rounded : Rounded (figure *ℤ pos (s .denominator)) (s .numerator) (withSign negative (roundedCount s (natAbs figure)))
   rounded = counted s k figure
 
   -- where the rounded count is past the last, the figure lies half a step past the last
@@ -52,7 +52,7 @@ module _ (s : Scale) (k : Sound s) (figure : ℤ) where
       omega
       (arith, within-reach h, rounded .near, gap-signed s figure (roundedCount s (natAbs figure)), mul-le-mul-right {m = suc last} (s .numerator) past, suc-mul last (s .numerator))
 
-  closest-last : 2 * (natAbs figure * s .denominator) ≡ 2 * (last * s .numerator) + s .numerator → Closest false s figure (signed negative last)
+  closest-last : 2 * (natAbs figure * s .denominator) ≡ 2 * (last * s .numerator) + s .numerator → Closest false s figure (withSign negative last)
   closest-last h =
       record {
         legal = legal-signed s negative last (le-refl last);
@@ -63,7 +63,7 @@ module _ (s : Scale) (k : Sound s) (figure : ℤ) where
       most : (other : ℤ) → Legal s other → side negative other * s .numerator ≤ last * s .numerator
       most other l = mul-le-mul-right (s .numerator) (legal-side s other l negative)
 
-      same : (other : ℤ) → Legal s other → gap s figure other ≡ gap s figure (signed negative last) → other ≡ signed negative last
+      same : (other : ℤ) → Legal s other → gap s figure other ≡ gap s figure (withSign negative last) → other ≡ withSign negative last
       same other l e =
           let here : side negative other ≡ last =
           eq-of-mul-eq-mul-right (s .numerator) (omega (arith, k .longer)) (side negative other) last
@@ -71,9 +71,9 @@ module _ (s : Scale) (k : Sound s) (figure : ℤ) where
           let there : side (not negative) other ≡ 0 =
           eq-of-mul-eq-mul-right (s .numerator) (omega (arith, k .longer)) (side (not negative) other) 0
           (omega (arith, h, e, gap-signed s figure last, gap-sides s figure other, most other l, zero-mul (s .numerator))) in
-          sides-equal negative other (signed negative last) (omega (arith, here, there, side-signed negative last, other-side-signed negative last))
+          sides-equal negative other (withSign negative last) (omega (arith, here, there, side-signed negative last, other-side-signed negative last))
 
-  closest-rounded : roundedCount s (natAbs figure) ≤ last → Closest false s figure (signed negative (roundedCount s (natAbs figure)))
+  closest-rounded : roundedCount s (natAbs figure) ≤ last → Closest false s figure (withSign negative (roundedCount s (natAbs figure)))
   closest-rounded h =
       record {
         legal = legal-signed s negative (roundedCount s (natAbs figure)) h;
@@ -82,7 +82,7 @@ module _ (s : Scale) (k : Sound s) (figure : ℤ) where
       }
 
   abbrev coded-count : ℤ
-  coded-count = signed negative (min (roundedCount s (natAbs figure)) last)
+  coded-count = withSign negative (min (roundedCount s (natAbs figure)) last)
 
   closest : natAbs figure ≤ reach s negative → Closest false s figure coded-count
   closest h = go (le-or-lt (roundedCount s (natAbs figure)) last)

@@ -3,7 +3,7 @@ use mathlib.Core.Bool.{Bool, true, false, not, cond}
 use Prim.Native.Nat.{ℕ, _+_, _-_, _*_, _/_, _%_, min}
 use lib.Dec.{leb}
 use lib.IntN.{ℤ, natAbs}
-use Rattle.rounding.specs.Parts.{isNegative, signed}
+use Rattle.rounding.specs.Parts.{isNegative, withSign}
 use Rattle.rounding.specs.Rounding.{roundEven}
 use Rattle.quantities.specs.declared.Quantity.{Quantity}
 use Rattle.quantities.specs.declared.Scale.{Scale}
@@ -23,7 +23,7 @@ roundedCount s size = roundEven (size * s .denominator) (s .numerator)
 unfoldable pub lineNearest : Scale → Bool → ℕ → Nearest
 lineNearest s negative size =
     cond (leb size (reach s negative))
-    (Count (signed negative (min (roundedCount s size) (lastCount s negative))))
+    (Count (withSign negative (min (roundedCount s size) (lastCount s negative))))
     OutOfReach
 
 -- the counts of a whole turn
@@ -34,8 +34,8 @@ turnCounts s = s .below + s .above + 1
 unfoldable pub wrap : Scale → Bool → ℕ → ℤ
 wrap s negative count =
     cond (leb (count % turnCounts s) (lastCount s negative))
-    (signed negative (count % turnCounts s))
-    (signed (not negative) (turnCounts s - count % turnCounts s))
+    (withSign negative (count % turnCounts s))
+    (withSign (not negative) (turnCounts s - count % turnCounts s))
 
 -- the size of the farthest azimuth of a sign, in millionths of a degree: -180 is taken, and 360 is not
 abbrev pub farthest : Bool → ℕ
@@ -58,4 +58,4 @@ nearestCount q figure =
 
 -- the millionths printed for a count: the size of its exact value, rounded half to even, with the count's sign
 unfoldable pub millionthsOf : Quantity → ℤ → ℤ
-millionthsOf q count = signed (isNegative count) (roundEven (natAbs count * scaleOf q .numerator) (scaleOf q .denominator))
+millionthsOf q count = withSign (isNegative count) (roundEven (natAbs count * scaleOf q .numerator) (scaleOf q .denominator))

@@ -5,7 +5,7 @@ use Prim.Native.Nat.{ℕ, suc, _+_, _-_, _*_, _≤_, _<_}
 use native.Mathlib.Nat.{zero-mul}
 use native.Mathlib.Omega.{arith}
 use lib.IntN.{ℤ, pos, negsuc, negℤ, natAbs, _*ℤ_}
-use Rattle.rounding.specs.Parts.{isNegative, signed, positivePart, negativePart, distance, one-part, positive-neg, negative-neg, parts-equal, parts-le, le-parts}
+use Rattle.rounding.specs.Parts.{isNegative, withSign, positivePart, negativePart, distance, one-part, positive-neg, negative-neg, parts-equal, parts-le, le-parts}
 use Rattle.rounding.specs.Rounding.{Rounded}
 use Rattle.rounding.specs.Laws.{error-parts, rounded-signed}
 use Rattle.quantities.specs.declared.Scale.{Scale}
@@ -18,11 +18,11 @@ abbrev pub side : Bool → ℤ → ℕ
 side false z = positivePart z
 side true z = negativePart z
 
-pub side-signed : (b : Bool) (n : ℕ) → side b (signed b n) ≡ n
+pub side-signed : (b : Bool) (n : ℕ) → side b (withSign b n) ≡ n
 side-signed false n = refl
 side-signed true n = negative-neg (pos n)
 
-pub other-side-signed : (b : Bool) (n : ℕ) → side (not b) (signed b n) ≡ 0
+pub other-side-signed : (b : Bool) (n : ℕ) → side (not b) (withSign b n) ≡ 0
 other-side-signed false n = refl
 other-side-signed true n = positive-neg (pos n)
 
@@ -44,10 +44,10 @@ side-legal s c h = (
   parts-le c (pos (s .above)) (omega (arith, h false)),
 )
 
-pub legal-signed : (s : Scale) (b : Bool) (n : ℕ) → n ≤ lastCount s b → Legal s (signed b n)
-legal-signed s b n h = side-legal s (signed b n) (go b h)
+pub legal-signed : (s : Scale) (b : Bool) (n : ℕ) → n ≤ lastCount s b → Legal s (withSign b n)
+legal-signed s b n h = side-legal s (withSign b n) (go b h)
   where
-    go : (b : Bool) → n ≤ lastCount s b → (a : Bool) → side a (signed b n) ≤ lastCount s a
+    go : (b : Bool) → n ≤ lastCount s b → (a : Bool) → side a (withSign b n) ≤ lastCount s a
     go false h false = h
     go false h true = omega arith
     go true h false = omega (arith, other-side-signed true n)
@@ -63,12 +63,12 @@ pub gap-sides : (s : Scale) (figure c : ℤ) → gap s figure c ≡ distance (na
 gap-sides s (pos n) c = omega (arith, error-parts (pos n *ℤ pos (s .denominator)) (s .numerator) c)
 gap-sides s (negsuc n) c = omega (arith, error-parts (negsuc n *ℤ pos (s .denominator)) (s .numerator) c, positive-neg (pos (suc n * s .denominator)), negative-neg (pos (suc n * s .denominator)))
 
-pub gap-signed : (s : Scale) (figure : ℤ) (n : ℕ) → gap s figure (signed (isNegative figure) n) ≡ distance (natAbs figure * s .denominator) (n * s .numerator)
+pub gap-signed : (s : Scale) (figure : ℤ) (n : ℕ) → gap s figure (withSign (isNegative figure) n) ≡ distance (natAbs figure * s .denominator) (n * s .numerator)
 gap-signed s figure n =
     omega
-    (arith, gap-sides s figure (signed (isNegative figure) n), ap (λ (x : ℕ). x * s .numerator) (side-signed (isNegative figure) n), ap (λ (x : ℕ). x * s .numerator) (other-side-signed (isNegative figure) n), zero-mul (s .numerator))
+    (arith, gap-sides s figure (withSign (isNegative figure) n), ap (λ (x : ℕ). x * s .numerator) (side-signed (isNegative figure) n), ap (λ (x : ℕ). x * s .numerator) (other-side-signed (isNegative figure) n), zero-mul (s .numerator))
 
 -- a figure's rounded count
-pub counted : (s : Scale) → Sound s → (figure : ℤ) → Rounded (figure *ℤ pos (s .denominator)) (s .numerator) (signed (isNegative figure) (roundedCount s (natAbs figure)))
+pub counted : (s : Scale) → Sound s → (figure : ℤ) → Rounded (figure *ℤ pos (s .denominator)) (s .numerator) (withSign (isNegative figure) (roundedCount s (natAbs figure)))
 counted s k (pos n) = rounded-signed false (n * s .denominator) (s .numerator) (omega (arith, k))
 counted s k (negsuc n) = rounded-signed true (suc n * s .denominator) (s .numerator) (omega (arith, k))

@@ -1,7 +1,7 @@
 ghost use mathlib.Core.Path.{_≡_};
 ghost use Prim.Native.Nat.{_≤_, _<_, _^_, min};
 ghost use lib.IntN.{natAbs};
-ghost use Rattle.rounding.specs.Parts.{isNegative, signed};
+ghost use Rattle.rounding.specs.Parts.{isNegative, withSign};
 ghost use Rattle.quantities.specs.Scale.{thirteenBits, mlsScale, scaleOf, onCircle, lastCount, widest, Sound};
 ghost use Rattle.quantities.specs.Nearest.{lineNearest, wrap, farthest, circleNearest, nearestCount, millionthsOf};
 
@@ -85,7 +85,7 @@ pub fn magnitude(number: i64) -> u64
 // The number of this size and sign.
 fn with_sign(negative: bool, size: u64) -> i64
     requires { ⌜ size < 2 ^ 63 ⌝ }
-    ensures { λ r. ⌜ r ≡ signed negative size ⌝ }
+    ensures { λ r. ⌜ r ≡ withSign negative size ⌝ }
 {
     let number = size as i64;
     if negative {
@@ -117,7 +117,7 @@ fn smaller(a: u64, b: u64) -> u64
 // The count of this size and sign, which 16 bits hold.
 fn count_with_sign(negative: bool, size: u64) -> i16
     requires { ⌜ size ≤ widest negative ⌝ }
-    ensures { λ r. ⌜ r ≡ signed negative size ⌝ }
+    ensures { λ r. ⌜ r ≡ withSign negative size ⌝ }
 {
     let number = with_sign(negative, size);
     number as i16

@@ -9,7 +9,7 @@ use native.Mathlib.Omega.{arith}
 use lib.Dec.{T, ltb, ltb→lt, nltb→le}
 use lib.IntN.{ℤ, pos, negℤ, natAbs, _*ℤ_}
 use lib.Signed.{_≤ℤ_, ≤ℤ-refl}
-use Rattle.rounding.specs.Parts.{le-or-lt, isNegative, signed, signed-natAbs, positivePart, negativePart, distance, natAbs-parts, natAbs-sub, positive-neg, negative-neg, positive-mul, negative-mul, parts-equal, parts-le, le-parts}
+use Rattle.rounding.specs.Parts.{le-or-lt, isNegative, withSign, withSign-natAbs, positivePart, negativePart, distance, natAbs-parts, natAbs-sub, positive-neg, negative-neg, positive-mul, negative-mul, parts-equal, parts-le, le-parts}
 use Rattle.rounding.specs.Rounding.{roundEven, roundEvenℤ, Even, error, Rounded}
 
 -- the error, by the parts of the signed numbers
@@ -161,7 +161,7 @@ rounded-pos n d pd =
     }
 
 -- a rounded size with its sign
-pub rounded-signed : (negative : Bool) (n d : ℕ) → 0 < d → Rounded (signed negative n) d (signed negative (roundEven n d))
+pub rounded-signed : (negative : Bool) (n d : ℕ) → 0 < d → Rounded (withSign negative n) d (withSign negative (roundEven n d))
 rounded-signed false n d pd = rounded-pos n d pd
 rounded-signed true n d pd = rounded-neg (rounded-pos n d pd)
 
@@ -169,7 +169,7 @@ rounded-signed true n d pd = rounded-neg (rounded-pos n d pd)
 pub rounded : (z : ℤ) (d : ℕ) → 0 < d → Rounded z d (roundEvenℤ z d)
 unfolding roundEvenℤ
 rounded z d pd =
-    subst (λ (x : ℤ). Rounded x d (signed (isNegative z) (roundEven (natAbs z) d))) (signed-natAbs z)
+    subst (λ (x : ℤ). Rounded x d (withSign (isNegative z) (roundEven (natAbs z) d))) (withSign-natAbs z)
     (rounded-signed (isNegative z) (natAbs z) d pd)
 
 -- a larger number is never rounded to a smaller one

@@ -32,13 +32,13 @@ isNegative (pos n) = false
 isNegative (negsuc n) = true
 
 -- n, or -n where the sign is negative
-abbrev pub signed : Bool → ℕ → ℤ
-signed false n = pos n
-signed true n = negℤ (pos n)
+abbrev pub withSign : Bool → ℕ → ℤ
+withSign false n = pos n
+withSign true n = negℤ (pos n)
 
-pub signed-natAbs : (z : ℤ) → signed (isNegative z) (natAbs z) ≡ z
-signed-natAbs (pos n) = refl
-signed-natAbs (negsuc n) = refl
+pub withSign-natAbs : (z : ℤ) → withSign (isNegative z) (natAbs z) ≡ z
+withSign-natAbs (pos n) = refl
+withSign-natAbs (negsuc n) = refl
 
 -- how far two natural numbers lie apart
 abbrev pub distance : ℕ → ℕ → ℕ

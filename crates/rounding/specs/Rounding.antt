@@ -6,7 +6,7 @@ use native.Mathlib.Omega.{arith}
 use borrow.Author.Tests.{ne-eqb}
 use lib.Dec.{ltb, eqb}
 use lib.IntN.{ℤ, pos, natAbs, _-ℤ_, _*ℤ_}
-use Rattle.rounding.specs.Parts.{isNegative, signed}
+use Rattle.rounding.specs.Parts.{isNegative, withSign}
 
 -- n over d, rounded: down where the remainder is less than what it lacks to d, up where it is more, and to the even one where they are equal
 unfoldable pub roundEven : ℕ → ℕ → ℕ
@@ -24,7 +24,7 @@ rounded-over n d h = rw (ne-eqb d 0 (λ e. omega arith)) refl
 
 -- a signed number over d: its size is rounded, and its sign kept
 unfoldable pub roundEvenℤ : ℤ → ℕ → ℤ
-roundEvenℤ z d = signed (isNegative z) (roundEven (natAbs z) d)
+roundEvenℤ z d = withSign (isNegative z) (roundEven (natAbs z) d)
 
 -- k is a multiple of 2
 abbrev pub Even : ℤ → Type 0

@@ -11,7 +11,7 @@ use mir.Facts.{toZ-ofZ, sfits-widen}
 use Rattle.quantities.specs.declared.Quantity.{Quantity}
 use Rattle.quantities.specs.declared.Scale.{Scale}
 use Rattle.rounding.specs.Laws.{round-at-most}
-use Rattle.rounding.specs.Parts.{isNegative, signed}
+use Rattle.rounding.specs.Parts.{isNegative, withSign}
 use Rattle.rounding.specs.Rounding.{roundEven, rounded-over}
 use Rattle.quantities.proofs.Products.{count-product}
 use Rattle.quantities.proofs.Signed.{widened, count-size}
@@ -55,7 +55,7 @@ with-sign-requires c κs =
     omega
     (arith, c .before .round-half-even .ensures ∙ rounded-over _ _ (sound-scale (scale .result) (start .args .quantity) (scale .ensures) .divisor), round-at-most (size .result * scale .result .numerator) (scale .result .denominator), product (scale .result) (start .args .quantity) (scale .ensures) (start .args .count) (start .fits .count) (size .result) (size .ensures))
 
-printed : (q : Quantity) {z y : ℤ} {s : Scale} {m r : ℕ} {n : Bool} {w : ℤ} → y ≡ z → s ≡ scaleOf q → m ≡ natAbs y → r ≡ roundEven (m * s .numerator) (s .denominator) → n ≡ isNegative y → w ≡ signed n r → w ≡ millionthsOf q z
+printed : (q : Quantity) {z y : ℤ} {s : Scale} {m r : ℕ} {n : Bool} {w : ℤ} → y ≡ z → s ≡ scaleOf q → m ≡ natAbs y → r ≡ roundEven (m * s .numerator) (s .denominator) → n ≡ isNegative y → w ≡ withSign n r → w ≡ millionthsOf q z
 unfolding millionthsOf
 printed q e scale size rounded sign number = cc
 

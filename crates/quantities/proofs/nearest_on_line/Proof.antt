@@ -4,7 +4,7 @@ use Prim.Native.Nat.{_≤_, min}
 use native.Mathlib.Nat.{le-trans}
 use native.Mathlib.Omega.{arith}
 use borrow.Author.Needs.{needs}
-use Rattle.rounding.specs.Parts.{signed}
+use Rattle.rounding.specs.Parts.{withSign}
 use Rattle.rounding.specs.Rounding.{rounded-over}
 use Rattle.quantities.specs.declared.Nearest.the-variants.{Count}
 use Rattle.quantities.specs.Scale.{lastCount}
@@ -67,7 +67,7 @@ returns-2 c =
     (count-back (c .count-with-sign .result) (a .negative) (c .before .smaller .result)
     (count-with-sign-requires (c .before) _)
     (c .count-with-sign .ensures)
-    ∙ ap (signed (a .negative)) (c .before .smaller .ensures ∙ ap₂ min (c .before .before .round-half-even .ensures ∙ rounded-over _ _ (step-positive (a .scale) (c .before .before .before .before .before .pre))) last))
+    ∙ ap (withSign (a .negative)) (c .before .smaller .ensures ∙ ap₂ min (c .before .before .round-half-even .ensures ∙ rounded-over _ _ (step-positive (a .scale) (c .before .before .before .before .before .pre))) last))
     ∙ sym (line-within (a .scale) (a .negative) (a .size) (rw last at (c .before .before .before .if1 .left)))
 
 pub nearest-on-line-spec : {M : Type 1} → statement M
