@@ -19,5 +19,5 @@ written-out (suc n) at l e =
     drop-cons l at 0 (omega arith) ∙ ap (λ (r : List ℕ). getD l at 0 ∷ r) (written-out n (suc at) l (omega arith))
 
 pub halves : (a b c d e f g h : ℕ)
-    → valueOf (a ∷ b ∷ c ∷ d ∷ []) * 4294967296 + valueOf (e ∷ f ∷ g ∷ h ∷ []) ≡ valueOf (a ∷ b ∷ c ∷ d ∷ e ∷ f ∷ g ∷ h ∷ [])
+    → valueOf (a ∷ b ∷ c ∷ d ∷ []) * 0x100000000 + valueOf (e ∷ f ∷ g ∷ h ∷ []) ≡ valueOf (a ∷ b ∷ c ∷ d ∷ e ∷ f ∷ g ∷ h ∷ [])
 halves a b c d e f g h = omega arith

@@ -24,13 +24,13 @@ meaning d = by (ltb d (2 ^ 63))
 
 -- a number below 0 is -k-1 for its `mag` k, which `!` makes of it, and its digits are those of k complemented
 pub negative : (z : ℤ) → SFits w64 z → ltZ (toZ w64 (ofZ w64 z)) (toZ w64 0) ≡ true
-    → (toZ w64 (18446744073709551615 - ofZ w64 z) ≡ pos (mag z)) × (18446744073709551615 - mag z ≡ complement 64 z)
+    → (toZ w64 (0xFFFFFFFFFFFFFFFF - ofZ w64 z) ≡ pos (mag z)) × (0xFFFFFFFFFFFFFFFF - mag z ≡ complement 64 z)
 negative (pos k) f t =
     absurd (true≢false (sym t ∙ ap (λ (x : ℤ). ltZ x (pos 0)) (toZ-ofZ f) ∙ le-ltb k 0 (omega arith)))
 negative (negsuc k) f t =
-    let e : 18446744073709551615 - (2 ^ 64 - suc k) ≡ k = omega (arith, f .sfits) in
+    let e : 0xFFFFFFFFFFFFFFFF - (2 ^ 64 - suc k) ≡ k = omega (arith, f .sfits) in
     let m : k % 2 ^ 64 ≡ k = mod-eq-of-lt (omega (arith, f .sfits)) in
-    (ap (toZ w64) e ∙ toZ-pos w64 (f .sfits), ap (λ (x : ℕ). 18446744073709551615 - x) (sym m))
+    (ap (toZ w64) e ∙ toZ-pos w64 (f .sfits), ap (λ (x : ℕ). 0xFFFFFFFFFFFFFFFF - x) (sym m))
 
 -- any other is its `mag`, and its own digits
 pub positive : (z : ℤ) → SFits w64 z → ltZ (toZ w64 (ofZ w64 z)) (toZ w64 0) ≡ false

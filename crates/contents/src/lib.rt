@@ -25,24 +25,24 @@ pub enum FigureIn {
 fn of_four(a: u8, b: u8, c: u8, d: u8) -> u32
     ensures { λ r. ⌜ r ≡ valueOf (a ∷ b ∷ c ∷ d ∷ []) ⌝ }
 {
-    a as u32 * 16777216 + b as u32 * 65536 + c as u32 * 256 + d as u32
+    a as u32 * 0x1000000 + b as u32 * 0x10000 + c as u32 * 256 + d as u32
 }
 
 // The number whose 32 higher and 32 lower binary digits these are.
 fn of_halves(higher: u32, lower: u32) -> u64
     ensures { λ r. ⌜ r ≡ higher * 2 ^ 32 + lower ⌝ }
 {
-    higher as u64 * 4294967296 + lower as u64
+    higher as u64 * 0x100000000 + lower as u64
 }
 
 // The signed number of 64 binary digits, in two's complement.
 fn signed_64(digits: u64) -> i64
     ensures { λ r. ⌜ r ≡ signed 64 digits ⌝ }
 {
-    if digits < 9223372036854775808 {
+    if digits < 0x8000000000000000 {
         digits as i64
     } else {
-        !((18446744073709551615 - digits) as i64)
+        !((0xFFFFFFFFFFFFFFFF - digits) as i64)
     }
 }
 
@@ -51,7 +51,7 @@ fn complement_64(number: i64) -> u64
     ensures { λ r. ⌜ r ≡ complement 64 number ⌝ }
 {
     if number < 0 {
-        18446744073709551615 - (!number) as u64
+        0xFFFFFFFFFFFFFFFF - (!number) as u64
     } else {
         number as u64
     }
@@ -84,8 +84,8 @@ pub fn word_bytes(word: u32) -> [u8; 4]
     ensures { λ r. ⌜ r ≡ wordBytes word ⌝ }
 {
     [
-        (word / 16777216 % 256) as u8,
-        (word / 65536 % 256) as u8,
+        (word / 0x1000000 % 256) as u8,
+        (word / 0x10000 % 256) as u8,
         (word / 256 % 256) as u8,
         (word % 256) as u8,
     ]
@@ -98,12 +98,12 @@ pub fn figure_bytes(label: u8, millionths: i64) -> [u8; 9]
     let digits = complement_64(millionths);
     [
         label,
-        (digits / 72057594037927936 % 256) as u8,
-        (digits / 281474976710656 % 256) as u8,
-        (digits / 1099511627776 % 256) as u8,
-        (digits / 4294967296 % 256) as u8,
-        (digits / 16777216 % 256) as u8,
-        (digits / 65536 % 256) as u8,
+        (digits / 0x100000000000000 % 256) as u8,
+        (digits / 0x1000000000000 % 256) as u8,
+        (digits / 0x10000000000 % 256) as u8,
+        (digits / 0x100000000 % 256) as u8,
+        (digits / 0x1000000 % 256) as u8,
+        (digits / 0x10000 % 256) as u8,
         (digits / 256 % 256) as u8,
         (digits % 256) as u8,
     ]

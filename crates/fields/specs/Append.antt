@@ -3,7 +3,7 @@
 use mathlib.Core.Path.{_≡_, refl, sym, ap, ap₂, subst, _∙_}
 use mathlib.Core.Bool.{Bool, true, false, cond}
 use mathlib.Core.List.{List, [], _∷_, _++_}
-use Prim.Native.Nat.{ℕ, zero, suc, _+_, _*_, _-_, _≤_, _<_}
+use Prim.Native.Nat.{ℕ, zero, suc, _+_, _*_, _-_, _≤_}
 use native.Mathlib.Nat.{le-refl, add-zero}
 use native.Mathlib.Omega.{arith}
 use borrow.Author.Tests.{le-ltb, ltb-false}
@@ -17,7 +17,7 @@ use Rattle.fields.specs.declared.Start.{Start}
 use Rattle.fields.specs.Start.{kindOfTag, lengthAllowed, depthAllowed, judged, startOf}
 use Rattle.fields.specs.Run.{Field, Scan, Fields, Refused, _andThen_, inside, step, runOf}
 use Rattle.fields.specs.Laws.{stands, end-empty, run-step}
-use Rattle.fields.specs.AndThen.{nothing-first, regroup}
+use Rattle.fields.specs.AndThenLemmas.{nothing-first, regroup}
 
 -- a scan without a refusal
 abbrev pub Legal : Scan → Type 0

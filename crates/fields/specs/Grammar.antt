@@ -3,7 +3,7 @@
 use mathlib.Core.Path.{_≡_, refl, sym, ap, ap₂, subst, _∙_}
 use mathlib.Core.Bool.{Bool, true, false, cond, _||_}
 use mathlib.Core.List.{List, [], _∷_, _++_, append-nil}
-use Prim.Native.Nat.{ℕ, zero, suc, _+_, _*_, _/_, _%_, _≤_, _<_}
+use Prim.Native.Nat.{ℕ, zero, suc, _+_, _/_, _%_, _≤_, _<_}
 use native.Mathlib.Nat.{div-add-mod', le-refl}
 use native.Mathlib.Omega.{arith}
 use borrow.Author.Tests.{eqb-true, ltb-true, ltb-false, lt-ltb, le-ltb}
@@ -17,7 +17,7 @@ use Rattle.fields.specs.declared.Start.{Start}
 use Rattle.fields.specs.Start.{tagOf, isLeaf, fieldBytes, kindOfTag, lengthAllowed, depthAllowed, judged, startOf}
 use Rattle.fields.specs.Run.{Field, Scan, Fields, Refused, _andThen_, inside, step, scan, runOf, sheetOf}
 use Rattle.fields.specs.Laws.{StartView, header, start-view, end-empty, run-step}
-use Rattle.fields.specs.AndThen.{nothing-after}
+use Rattle.fields.specs.AndThenLemmas.{nothing-after}
 use Rattle.fields.specs.Limits.{longer, not-longer}
 
 -- ---- what is stated
@@ -50,9 +50,9 @@ pub data Bytes : List ℕ → Type 0 where
 -- what may be written at a depth: lengths that two bytes hold, four bytes in a word and nine in a figure, and groups at depths below 4
 pub data Allowed : ℕ → Trees → Type 0 where
   no-more-allowed : {d : ℕ} → Allowed d no-more
-  leaf-allowed : {d : ℕ} {k : FieldKind} {c : List ℕ} {ts : Trees} → isLeaf k ≡ true → lengthAllowed k (length c) ≡ true → length c < 65536 → Bytes c → Allowed d ts
+  leaf-allowed : {d : ℕ} {k : FieldKind} {c : List ℕ} {ts : Trees} → isLeaf k ≡ true → lengthAllowed k (length c) ≡ true → length c < 0x10000 → Bytes c → Allowed d ts
       → Allowed d (leaf k c ts)
-  group-allowed : {d : ℕ} {us ts : Trees} → d < 4 → length (bytesOf us) < 65536 → Allowed (suc d) us → Allowed d ts → Allowed d (group us ts)
+  group-allowed : {d : ℕ} {us ts : Trees} → d < 4 → length (bytesOf us) < 0x10000 → Allowed (suc d) us → Allowed d ts → Allowed d (group us ts)
 
 -- ---- a written field before the rest of its run
 
@@ -113,7 +113,7 @@ bytes-append : {xs ys : List ℕ} → Bytes xs → Bytes ys → Bytes (xs ++ ys)
 bytes-append no-byte b = b
 bytes-append (byte h a) b = byte h (bytes-append a b)
 
-bytes-written : (k : FieldKind) (c rest : List ℕ) → length c < 65536 → Bytes c → Bytes rest → Bytes (fieldBytes k c ++ rest)
+bytes-written : (k : FieldKind) (c rest : List ℕ) → length c < 0x10000 → Bytes c → Bytes rest → Bytes (fieldBytes k c ++ rest)
 bytes-written k c rest short b r =
     let high : length c / 256 < 256 = omega arith in
     let low : length c % 256 < 256 = omega arith in
@@ -164,7 +164,7 @@ record FirstField (d : ℕ) (k : FieldKind) (bs : List ℕ) : Type 0 where
   whole : bs ≡ fieldBytes k content ++ rest
   long : lengthAllowed k (length content) ≡ true
   deep : depthAllowed k d ≡ true
-  short : length content < 65536
+  short : length content < 0x10000
   contentBytes : Bytes content
   restBytes : Bytes rest
 
@@ -208,7 +208,7 @@ abbrev Reads : ℕ → Type 0
 Reads m = (d p : ℕ) (bs : List ℕ) → length bs ≤ m → Bytes bs → (fs : List Field) → runOf d p bs ≡ Fields fs → WrittenBy d p bs fs
 
 -- a field before a list of fields: a leaf as it is, a group by the list of fields that it holds
-module _ (d p : ℕ) (c rest : List ℕ) (fs : List Field) (short : length c < 65536) where
+module _ (d p : ℕ) (c rest : List ℕ) (fs : List Field) (short : length c < 0x10000) where
   read-leaf : (k : FieldKind) → isLeaf k ≡ true → lengthAllowed k (length c) ≡ true → Bytes c
       → (b : Both (record { place = p; depth = d; kind = k; content = c }) (inside runOf k d p c) (runOf d (p + 3 + length c) rest) fs)
       → WrittenBy d (p + 3 + length c) rest (b .after) → WrittenBy d p (fieldBytes k c ++ rest) fs

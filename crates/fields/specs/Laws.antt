@@ -1,12 +1,12 @@
 -- The laws of a run of bytes that others cite: what its start says, and one step without the number of steps.
 -- Assumes nothing.
-use mathlib.Core.Path.{_≡_, refl, sym, ap, ap₂, subst, _∙_}
+use mathlib.Core.Path.{_≡_, refl, ap₂, subst}
 use mathlib.Core.Bool.{Bool, true, false, cond}
-use mathlib.Core.List.{List, [], _∷_, _++_}
+use mathlib.Core.List.{List, [], _∷_}
 use Prim.Native.Nat.{ℕ, zero, suc, _+_, _*_, _-_, _≤_, _<_}
 use native.Mathlib.Omega.{arith}
-use borrow.Author.Tests.{eqb-true, ltb-false}
-use lib.Dec.{eqb, ltb}
+use borrow.Author.Tests.{ltb-false}
+use lib.Dec.{ltb}
 use native.Mathlib.Nat.{le-refl}
 use lib.ListN.{length, take, drop, length-drop}
 use lib.Seq.{length-take-le}

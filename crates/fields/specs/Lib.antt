@@ -2,9 +2,9 @@
 pub mod Start
 pub mod Run
 pub mod Laws
-pub mod Header
+pub mod HeaderLemmas
 pub mod Limits
 pub mod Grammar
-pub mod AndThen
+pub mod AndThenLemmas
 pub mod Append
 pub mod Moved

@@ -1,6 +1,5 @@
 -- What a run of bytes is: all its fields in the order of their tags, a group before its inside, or the first refusal with the offset of its field's tag.
 -- Assumes nothing.
-use mathlib.Core.Path.{_≡_}
 use mathlib.Core.Bool.{cond}
 use mathlib.Core.List.{List, [], _∷_, _++_}
 use Prim.Native.Nat.{ℕ, zero, suc, _+_}

@@ -7,7 +7,7 @@ use native.Mathlib.Omega.{arith}
 use lib.ListN.{length, take, drop}
 use Rattle.refusals.specs.Numbers.{numberOf}
 use Rattle.fields.specs.Run.{sheetOf}
-use Rattle.walk.specs.Within.{drop-take}
+use Rattle.walk.specs.WithinLemmas.{drop-take}
 use Rattle.notes.specs.declared.NoteFound.{NoteFound}
 use Rattle.notes.specs.Note.{NoteText, Text, NoText, noteOf, foundOf}
 use Rattle.notes.specs.Place.{Lies, text-lies}

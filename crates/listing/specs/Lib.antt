@@ -2,5 +2,6 @@
 pub mod Listing
 pub mod Size
 pub mod Turn
-pub mod Loop
-pub mod Buffer
+pub mod TurnLemmas
+pub mod LoopLemmas
+pub mod BufferLemmas

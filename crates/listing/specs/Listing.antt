@@ -1,6 +1,5 @@
 -- The listing of a sheet, from the sheet's fields: a line for each word and each figure, nothing for notes and groups, last the total; of a sheet that is refused, its refusal alone.
 -- Assumes nothing.
-use mathlib.Core.Path.{_≡_}
 use mathlib.Core.Bool.{cond}
 use mathlib.Core.List.{List, [], _∷_, _++_}
 use Prim.Native.Nat.{ℕ}

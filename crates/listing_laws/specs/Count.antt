@@ -1,9 +1,9 @@
 -- A listing ends with its total, and has one line for each word field and each figure field, and one for the total.
 -- Assumes nothing.
-use mathlib.Core.Path.{_≡_, refl, sym, ap, ap₂, subst, _∙_}
+use mathlib.Core.Path.{_≡_, refl, sym, ap, ap₂, _∙_}
 use mathlib.Core.Bool.{Bool, true, false, cond, false≢true}
 use mathlib.Core.List.{List, [], _∷_, _++_}
-use Prim.Native.Nat.{ℕ, zero, suc, _+_, _*_, _/_, _^_, _≤_, _<_}
+use Prim.Native.Nat.{ℕ, zero, suc, _+_, _/_, _^_, _<_}
 use native.Mathlib.Omega.{arith}
 use borrow.Author.Tests.{ne-eqb}
 use lib.Dec.{eqb, lit<}
@@ -15,11 +15,10 @@ use Rattle.codes.specs.declared.Status.{Status}
 use Rattle.fields.specs.declared.FieldKind.{FieldKind}
 use Rattle.fields.specs.Start.{lengthAllowed}
 use Rattle.fields.specs.Run.{Field, Fields, sheetOf}
-use Rattle.fields.specs.Grammar.{Trees, no-more, leaf, group, Bytes, bytesOf, fieldsOf, Allowed, no-more-allowed, leaf-allowed, group-allowed, WrittenBy, written-sheet}
+use Rattle.fields.specs.Grammar.{Trees, no-more, leaf, group, Bytes, bytesOf, fieldsOf, Allowed, no-more-allowed, leaf-allowed, group-allowed, written-sheet}
 use Rattle.contents.specs.declared.WordIn.{WordIn}
 use Rattle.contents.specs.declared.FigureIn.{FigureIn}
 use Rattle.contents.specs.BigEndian.{valueOf}
-use Rattle.contents.specs.Contents.{wordIn, figureIn}
 use Rattle.decode.specs.Decode.{decodeOf}
 use Rattle.decode.specs.declared.Decoded.{Decoded}
 use Rattle.verdicts.specs.declared.Previous.{Previous}

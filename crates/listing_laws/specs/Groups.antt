@@ -5,10 +5,9 @@ use mathlib.Core.List.{List, [], _∷_, _++_, append-assoc}
 use Prim.Native.Nat.{ℕ, suc, _+_, _≤_, _<_}
 use native.Mathlib.Omega.{arith}
 use borrow.Author.Tests.{eq-eqb, ne-eqb}
-use lib.Dec.{eqb}
 use lib.ListN.{length}
 use Rattle.fields.specs.declared.FieldKind.{FieldKind}
-use Rattle.fields.specs.Run.{Field, Fields}
+use Rattle.fields.specs.Run.{Field}
 use Rattle.fields.specs.Grammar.{Trees, no-more, leaf, group, bytesOf, fieldsOf, Allowed, sheet-written}
 use Rattle.contents.specs.declared.WordIn.{WordIn}
 use Rattle.verdicts.specs.declared.Previous.{Previous}

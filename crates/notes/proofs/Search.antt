@@ -17,7 +17,7 @@ use Rattle.walk.specs.Step.{stepOf}
 use Rattle.walk.specs.Rest.{fieldOf}
 use Rattle.walk.specs.Fold.{Loop, loop-goes, loop-stops, field-ends, field-length}
 use Rattle.notes.specs.declared.NoteFound.{NoteFound}
-use Rattle.notes.specs.Note.{NoteText, Text, isNote, noteIn, noteOf, foundOf}
+use Rattle.notes.specs.Note.{Text, isNote, noteIn, noteOf, foundOf}
 
 -- a loop that has no state and gives the note at a place
 abbrev pub Seeking : List ℕ → ℕ → Walk → Type 0

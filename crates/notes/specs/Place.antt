@@ -15,7 +15,7 @@ use Rattle.fields.specs.Run.{Field, Scan, Fields, Refused, sheetOf}
 use Rattle.walk.specs.declared.Walk.{Walk}
 use Rattle.walk.specs.Step.{startWalk, stepOf}
 use Rattle.walk.specs.Stands.{Stands}
-use Rattle.walk.specs.Within.{drop-take}
+use Rattle.walk.specs.WithinLemmas.{drop-take}
 use Rattle.walk.specs.Walked.{InSheet, steps, starts, rising, content-in-sheet}
 use Rattle.notes.specs.Note.{NoteText, Text, NoText, isNote, noteIn, noteOf, textOf, foundOf, spanOf}
 

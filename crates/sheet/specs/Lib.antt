@@ -1,3 +1,3 @@
 -- Checking a sheet. Assumes nothing.
 pub mod Checked
-pub mod Steps
+pub mod StepsLemmas

@@ -38,7 +38,7 @@ fn after_inside(inside: Checked, next: usize) -> FieldChecked
 
 // The check of the field at a place in a run whose first byte has this offset.
 fn check_field(run: &[u8], at: usize, offset: usize, depth: u8) -> FieldChecked
-    requires { ⌜ (at ≤ length (now run)) × (offset + length (now run) < 18446744073709551616) ⌝ }
+    requires { ⌜ (at ≤ length (now run)) × (offset + length (now run) < 0x10000000000000000) ⌝ }
     ensures { λ r. ⌜ r ≡ fieldOf depth offset at (now (run .entry)) ⌝ }
 {
     let place = offset + at;
@@ -62,7 +62,7 @@ fn check_field(run: &[u8], at: usize, offset: usize, depth: u8) -> FieldChecked
 
 // The check of a run of fields at a depth, whose first byte has this offset.
 fn check_run(run: &[u8], offset: usize, depth: u8) -> Checked
-    requires { ⌜ offset + length (now run) < 18446744073709551616 ⌝ }
+    requires { ⌜ offset + length (now run) < 0x10000000000000000 ⌝ }
     ensures { λ r. ⌜ r ≡ checkedOf (runOf depth offset (now (run .entry))) ⌝ }
 {
     let mut at: usize = 0;

@@ -1,6 +1,6 @@
 -- What walking a sheet gives. Assumes nothing.
 pub mod Step
-pub mod Within
+pub mod WithinLemmas
 pub mod Rest
 pub mod Stands
 pub mod Fold

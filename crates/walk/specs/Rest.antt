@@ -16,13 +16,13 @@ use Rattle.fields.specs.declared.Start.{Start}
 use Rattle.fields.specs.Start.{startOf}
 use Rattle.fields.specs.Run.{Field, Scan, Fields, Refused, _andThen_, inside, step, scan, runOf, sheetLimit, sheetOf}
 use Rattle.fields.specs.Laws.{run-step, stands, end-empty}
-use Rattle.fields.specs.AndThen.{nothing-first, nothing-after, regroup}
+use Rattle.fields.specs.AndThenLemmas.{nothing-first, nothing-after, regroup}
 use Rattle.walk.specs.declared.Position.{Position}
 use Rattle.walk.specs.declared.Walk.{Walk}
 use Rattle.walk.specs.declared.FieldAt.{FieldAt}
 use Rattle.walk.specs.declared.Given.{Given}
 use Rattle.walk.specs.Step.{atStart, walkOf, startWalk, levelBy, entered, passed, nextOf, givenAt, stepAt, stepOf}
-use Rattle.walk.specs.Within.{drop-take, within}
+use Rattle.walk.specs.WithinLemmas.{drop-take, within}
 
 -- the rest of a run from a place to its end, then what follows it
 unfoldable pub level : List ℕ → (depth end : ℕ) → (ℕ → Scan) → (place : ℕ) → Scan

@@ -18,7 +18,7 @@ use Rattle.walk.specs.declared.Walk.{Walk}
 use Rattle.walk.specs.declared.FieldAt.{FieldAt}
 use Rattle.walk.specs.declared.Given.{Given}
 use Rattle.walk.specs.Step.{walkOf, startWalk, levelOf, entered, nextOf, givenAt, stepOf}
-use Rattle.walk.specs.Within.{within}
+use Rattle.walk.specs.WithinLemmas.{within}
 use Rattle.walk.specs.Rest.{restOf, fieldOf, told, step-rest, start-rest}
 
 -- what is ahead of a walk: these fields, or the refusal of the sheet, which the walk then tells at once

@@ -137,7 +137,7 @@ fn next_of(position: Position, depth: u8, kind: FieldKind, from: usize, end: usi
 
 // What is given where the field, the end or the refusal `found` stands.
 fn given_at(position: Position, depth: u8, found: Start) -> WalkStep
-    requires { ⌜ ((k : FieldKind) (n : ℕ) → found ≡ Start.Field k n → position .place + 3 + n < 18446744073709551616) ⌝ }
+    requires { ⌜ ((k : FieldKind) (n : ℕ) → found ≡ Start.Field k n → position .place + 3 + n < 0x10000000000000000) ⌝ }
     ensures { λ r. ⌜ r ≡ givenAt position depth found ⌝ }
 {
     let place = position.place;

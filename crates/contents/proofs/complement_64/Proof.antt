@@ -16,7 +16,7 @@ cast-result c =
 sub-result : tie.Need-sub-result
 sub-result c =
     let k : ℕ = mag (c .before .args .number) in
-    subst (λ (x : ℤ). natAbs x ≤ 18446744073709551615)
+    subst (λ (x : ℤ). natAbs x ≤ 0xFFFFFFFFFFFFFFFF)
     (sym (negative (c .before .args .number) (c .before .fits .number) (c .if1 .taken) .0))
     (omega (arith, c .before .fits .number .sfits))
 
@@ -27,7 +27,7 @@ cast-result-2 c =
 returns : tie.Need-returns
 returns c =
     let n = negative (c .before .args .number) (c .before .fits .number) (c .if1 .taken) in
-    ap (λ (x : ℤ). 18446744073709551615 - natAbs x) (n .0) ∙ n .1
+    ap (λ (x : ℤ). 0xFFFFFFFFFFFFFFFF - natAbs x) (n .0) ∙ n .1
 
 returns-2 : tie.Need-returns-2
 returns-2 c =

@@ -66,7 +66,7 @@ returns-2 c =
     let nine : length l ≡ 9 = start .if1 .left in
     let digits : c .before .of-halves .result ≡ valueOf (drop 1 l) =
     c .before .of-halves .ensures
-    ∙ ap₂ (λ (x y : ℕ). x * 4294967296 + y) (c .before .before .before .before .before .before .before .before .of-four .ensures) (c .before .before .before .of-four2 .ensures)
+    ∙ ap₂ (λ (x y : ℕ). x * 0x100000000 + y) (c .before .before .before .before .before .before .before .before .of-four .ensures) (c .before .before .before .of-four2 .ensures)
     ∙ halves (getD l 1 0) (getD l 2 0) (getD l 3 0) (getD l 4 0) (getD l 5 0) (getD l 6 0) (getD l 7 0) (getD l 8 0)
     ∙ ap valueOf (sym (written-out 8 1 l nine)) in
     ap (FigureIn.Figure (getD l 0 0))

@@ -25,7 +25,7 @@ returns c = meaning (c .before .args .digits)
 returns-2 : tie.Need-returns-2
 returns-2 c =
     let d : ℕ = c .before .args .digits in
-    let twice : 18446744073709551615 - (18446744073709551615 - d) ≡ d = omega arith in
+    let twice : 0xFFFFFFFFFFFFFFFF - (0xFFFFFFFFFFFFFFFF - d) ≡ d = omega arith in
     ap (toZ w64) twice ∙ meaning d
 
 pub signed-64-spec : {M : Type 1} → statement M

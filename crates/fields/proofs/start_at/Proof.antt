@@ -1,4 +1,4 @@
--- The three tests of the header are those of its bytes (specs/Header.antt).
+-- The three tests of the header are those of its bytes (specs/HeaderLemmas.antt).
 -- Assumes nothing.
 use mathlib.Core.Path.{sym, ap, _∙_}
 use Prim.Native.Nat.{ℕ, _+_, _*_, _-_}
@@ -6,7 +6,7 @@ use native.Mathlib.Omega.{arith}
 use lib.ListN.{length, getD}
 use Rattle.fields.specs.declared.TagLookup.{TagLookup}
 use Rattle.fields.specs.Start.{judged}
-use Rattle.fields.specs.Header.{start-end, start-cut, start-header}
+use Rattle.fields.specs.HeaderLemmas.{start-end, start-cut, start-header}
 use borrow.Author.Needs.{needs}
 use Rattle.fields.proofs.start_at.Statement.{statement}
 use Rattle.fields.proofs.start_at.Tie as tie

@@ -1,8 +1,8 @@
--- By the length where it is measured, else by the limit (specs/Buffer.antt).
+-- By the length where it is measured, else by the limit (specs/BufferLemmas.antt).
 -- Assumes nothing.
 use mathlib.Core.Path.{ap}
 use lib.Dec.{ltb}
-use Rattle.listing.specs.Buffer.{never-longer}
+use Rattle.listing.specs.BufferLemmas.{never-longer}
 use borrow.Author.Needs.{needs}
 use Rattle.listing.proofs.is_longer.Statement.{statement}
 use Rattle.listing.proofs.is_longer.Tie as tie

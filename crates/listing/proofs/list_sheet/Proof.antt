@@ -1,7 +1,7 @@
--- The text is written only where it fits (specs/Buffer.antt).
+-- The text is written only where it fits (specs/BufferLemmas.antt).
 -- Assumes nothing.
 use mathlib.Core.Path.{sym, _∙_}
-use Rattle.listing.specs.Buffer.{no-room, stored}
+use Rattle.listing.specs.BufferLemmas.{no-room, stored}
 use borrow.Author.Needs.{needs}
 use Rattle.listing.proofs.list_sheet.Statement.{statement}
 use Rattle.listing.proofs.list_sheet.Tie as tie

@@ -1,8 +1,8 @@
--- By the field's kind (specs/Turn.antt).
+-- By the field's kind (specs/TurnLemmas.antt).
 -- Assumes nothing.
 use native.Mathlib.Omega.{arith}
 use Rattle.fields.specs.declared.FieldKind.{FieldKind}
-use Rattle.listing.specs.Turn.{part-listed, passed-listed, note-listed, group-listed}
+use Rattle.listing.specs.TurnLemmas.{part-listed, passed-listed, note-listed, group-listed}
 use borrow.Author.Needs.{needs}
 use Rattle.listing.proofs.put_field.Statement.{statement}
 use Rattle.listing.proofs.put_field.Tie as tie

@@ -1,9 +1,9 @@
--- By the figure that the content holds (specs/Turn.antt).
+-- By the figure that the content holds (specs/TurnLemmas.antt).
 -- Assumes nothing.
 use native.Mathlib.Omega.{arith}
 use mir.Facts.{toZ-ofZ}
 use mir.Syntax.{w64}
-use Rattle.listing.specs.Turn.{figure-listed, no-figure-listed}
+use Rattle.listing.specs.TurnLemmas.{figure-listed, no-figure-listed}
 use borrow.Author.Needs.{needs}
 use Rattle.listing.proofs.put_figure.Statement.{statement}
 use Rattle.listing.proofs.put_figure.Tie as tie

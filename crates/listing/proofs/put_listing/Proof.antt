@@ -1,10 +1,10 @@
--- Each turn writes a field's line and counts it; what is written and what is ahead stay the sheet's (specs/Loop.antt).
+-- Each turn writes a field's line and counts it; what is written and what is ahead stay the sheet's (specs/LoopLemmas.antt).
 -- Assumes nothing.
 use native.Mathlib.Omega.{arith}
 use Rattle.walk.specs.Stands.{left}
 use Rattle.text.specs.Writing.{length-kept}
 use Rattle.walk.specs.Fold.{field-ends, fewer-left, few-below}
-use Rattle.listing.specs.Loop.{Going, going-starts, going-on, with-total, with-refusal}
+use Rattle.listing.specs.LoopLemmas.{Going, going-starts, going-on, with-total, with-refusal}
 use borrow.Author.Needs.{needs}
 use Rattle.listing.proofs.put_listing.Statement.{statement}
 use Rattle.listing.proofs.put_listing.Tie as tie

@@ -1,8 +1,8 @@
--- By the word that the content holds (specs/Turn.antt).
+-- By the word that the content holds (specs/TurnLemmas.antt).
 -- Assumes nothing.
 use native.Mathlib.Omega.{arith}
 use Rattle.totals.specs.Totals.{one-at-most}
-use Rattle.listing.specs.Turn.{word-listed, no-word-listed}
+use Rattle.listing.specs.TurnLemmas.{word-listed, no-word-listed}
 use borrow.Author.Needs.{needs}
 use Rattle.listing.proofs.put_word.Statement.{statement}
 use Rattle.listing.proofs.put_word.Tie as tie

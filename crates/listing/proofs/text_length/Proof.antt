@@ -1,6 +1,6 @@
--- The place behind the text is its length (specs/Buffer.antt).
+-- The place behind the text is its length (specs/BufferLemmas.antt).
 -- Assumes nothing.
-use Rattle.listing.specs.Buffer.{measured}
+use Rattle.listing.specs.BufferLemmas.{measured}
 use borrow.Author.Needs.{needs}
 use Rattle.listing.proofs.text_length.Statement.{statement}
 use Rattle.listing.proofs.text_length.Tie as tie

@@ -7,7 +7,7 @@ use native.Mathlib.Omega.{arith}
 use borrow.Author.Needs.{needs}
 use lib.ListN.{length, take, drop}
 use Rattle.fields.specs.Run.{sheetOf}
-use Rattle.walk.specs.Within.{drop-take}
+use Rattle.walk.specs.WithinLemmas.{drop-take}
 use Rattle.notes.specs.declared.Span.{Span}
 use Rattle.notes.specs.Note.{noteOf, foundOf, spanOf}
 use Rattle.notes.specs.Place.{text-lies}

@@ -1,4 +1,4 @@
--- Each step of the check is one law of specs/Steps.antt. The measures: for a run twice its bytes and one, for a field twice the bytes from its place on;
+-- Each step of the check is one law of specs/StepsLemmas.antt. The measures: for a run twice its bytes and one, for a field twice the bytes from its place on;
 -- a group's content is shorter by the three bytes of its header. The loop's invariant: from the place on the check says what it says of the whole run.
 -- Assumes nothing.
 use mathlib.Core.Path.{_≡_, sym, ap, _∙_}
@@ -12,7 +12,7 @@ use Rattle.fields.specs.Run.{runOf}
 use Rattle.sheet.specs.declared.Checked.{Checked}
 use Rattle.sheet.specs.declared.FieldChecked.{FieldChecked}
 use Rattle.sheet.specs.Checked.{checkedOf, afterInside, fieldOf}
-use Rattle.sheet.specs.Steps.{restOf, rest-all, next-inside, turn, field-at, kind-at, StandsAt, stands-at, group-depth, group-field}
+use Rattle.sheet.specs.StepsLemmas.{restOf, rest-all, next-inside, turn, field-at, kind-at, StandsAt, stands-at, group-depth, group-field}
 use borrow.Author.Needs.{needs}
 use borrow.Fn.Kinds.{In}
 use borrow.Fn.PlainCycle.{Measures, is, falls, and}

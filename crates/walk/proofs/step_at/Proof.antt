@@ -9,7 +9,7 @@ use lib.ListN.{take, drop}
 use lib.Seq.{length-take-le}
 use Rattle.fields.specs.Start.{startOf}
 use Rattle.walk.specs.Step.{givenAt}
-use Rattle.walk.specs.Within.{take-min, within}
+use Rattle.walk.specs.WithinLemmas.{take-min, within}
 use Rattle.walk.proofs.step_at.Statement.{statement}
 use Rattle.walk.proofs.step_at.Tie as tie
 

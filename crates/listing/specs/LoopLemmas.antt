@@ -1,7 +1,7 @@
 -- A listing on its way: the text written so far and that of the fields ahead make up the sheet's (walk/specs/Fold.antt).
 -- Assumes nothing.
 use mathlib.Core.Path.{_≡_, refl, sym, ap, ap₂, _∙_}
-use mathlib.Core.List.{List, [], _∷_, _++_, append-assoc}
+use mathlib.Core.List.{List, [], _++_, append-assoc}
 use Prim.Native.Nat.{ℕ, _+_, _≤_}
 use native.Mathlib.Nat.{zero-add}
 use native.Mathlib.Omega.{arith}
@@ -17,7 +17,7 @@ use Rattle.walk.specs.Rest.{fieldOf}
 use Rattle.walk.specs.Fold.{Loop, Few, loop-starts, loop-goes, loop-ends, loop-refused, few-starts, few-goes}
 use Rattle.text.specs.Writing.{last, Writes, named, joined, empty}
 use Rattle.totals.specs.Totals.{wordsIn, refusedWordsIn}
-use Rattle.totals.specs.Counting.{adds-word, adds-refused}
+use Rattle.totals.specs.CountingLemmas.{adds-word, adds-refused}
 use Rattle.lines.specs.Lines.{totalLine, refusalLine}
 use Rattle.listing.specs.declared.Before.{Before}
 use Rattle.listing.specs.declared.Progress.{Progress}
