@@ -24,7 +24,8 @@ use Rattle.records.specs.declared.Record.{Record}
 use Rattle.refusals.specs.Order.{Rule, asks, Follows, kept-first, broken-first}
 use Rattle.refusals.specs.declared.Refusal.{Refusal}
 use Rattle.labels.specs.Label.{labelOf}
-use Rattle.labels.specs.Table.{labelNumber, kinds, rows, findKind, only}
+use Rattle.records.specs.All.{kinds}
+use Rattle.labels.specs.Table.{labelNumber, rows, findKind, only}
 use Rattle.labels.specs.declared.Lookup.{Lookup}
 use Rattle.decode.specs.Rules.{rules, bodyOf}
 use Rattle.decode.specs.Decode.{verdict, judged, recordOf, decodeFound, decodeOf}

@@ -7,7 +7,11 @@ use Prim.Native.Nat.{ℕ}
 use native.Mathlib.Omega.{arith}
 use Rattle.records.specs.declared.Body.{Body}
 use Rattle.codes.specs.declared.Status.{Status}
-use Rattle.columns.specs.Columns.{statusColumns, partColumns, columnsOf}
+use Rattle.views.specs.Views.{viewOf}
+use Rattle.views.specs.declared.Setting.{Setting}
+use Rattle.views.specs.declared.Value.{Value}
+use Rattle.views.specs.declared.View.{View}
+use Rattle.columns.specs.Columns.{figureOf, statusColumns, partColumns, columnsIn, columnsOf}
 use Rattle.columns.specs.declared.Mark.{Mark}
 use Rattle.columns.specs.declared.Figure.{Figure}
 use Rattle.columns.specs.declared.Columns.{Columns}
@@ -27,23 +31,21 @@ status-dash Status.Ready negative places size = record { right = (λ e. clash (c
 part-dash : (part content : ℕ) → DashRight (partColumns part content)
 part-dash part content = record { right = (λ e. clash (cc), elim [ inl e ↦ clash (cc) | inr e ↦ clash (cc) ]) }
 
-dash : (b : Body) → DashRight (columnsOf b)
-dash (Body.VorAzimuth s m n) = status-dash s _ _ _
-dash (Body.VorFrequency s f) = status-dash s _ _ _
-dash (Body.IlsCourse s i n) = status-dash s _ _ _
-dash (Body.IlsGlide s i n) = status-dash s _ _ _
-dash (Body.IlsFrequency s c f) = status-dash s _ _ _
-dash (Body.MlsFrequency s f) = status-dash s _ _ _
-dash (Body.MlsAzimuthDeviation s i c n) = status-dash s _ _ _
-dash (Body.MlsGlideDeviation s i c n) = status-dash s _ _ _
-dash (Body.SelectedAzimuth s m d) = status-dash s _ _ _
-dash (Body.GreatestGlideAngle s t) = status-dash s _ _ _
-dash (Body.SelectedGlideAngle s m t) = status-dash s _ _ _
-dash (Body.Part1 n c) = part-dash 1 _
-dash (Body.Part2 c) = part-dash 2 _
-dash (Body.Part3 c) = part-dash 3 _
-dash (Body.Part4 g c) = part-dash 4 _
+value-dash : (s : Status) (v : Value) → DashRight (statusColumns s (figureOf v))
+value-dash s (Value.Azimuth n) = status-dash s _ _ _
+value-dash s (Value.Course n) = status-dash s _ _ _
+value-dash s (Value.Glide n) = status-dash s _ _ _
+value-dash s (Value.MlsAzimuth n) = status-dash s _ _ _
+value-dash s (Value.MlsGlide n) = status-dash s _ _ _
+value-dash s (Value.Frequency f) = status-dash s _ _ _
+value-dash s (Value.Setting (Setting.SelectedAzimuth m d)) = status-dash s _ _ _
+value-dash s (Value.Setting (Setting.GreatestGlideAngle t)) = status-dash s _ _ _
+value-dash s (Value.Setting (Setting.SelectedGlideAngle m t)) = status-dash s _ _ _
+
+dash : (v : View) → DashRight (columnsIn v)
+dash (View.Value s v) = value-dash s v
+dash (View.Part part content) = part-dash part content
 
 -- of every record
 pub dash-exactly : (b : Body) → (columnsOf b .figure ≡ Figure.Absent) ↔ ((columnsOf b .mark ≡ Mark.Status Status.Failure) ⊎ (columnsOf b .mark ≡ Mark.Status Status.NoData))
-dash-exactly b = dash b .right
+dash-exactly b = dash (viewOf b) .right

@@ -1,9 +1,11 @@
 // What a line of the listing shows of a record: its status or part, and its figure.
 use codes::Status;
 use records::Body;
+use views::Setting;
+use views::Value;
+use views::View;
 ghost use mathlib.Core.Path.{_≡_};
-ghost use Prim.Native.Nat.{_+_, _*_};
-ghost use Rattle.columns.specs.Columns.{wholeFigure, signedFigure, figureUnder, statusColumns, partColumns, columnsOf};
+ghost use Rattle.columns.specs.Columns.{wholeFigure, signedFigure, settingFigure, figureOf, figureUnder, statusColumns, partColumns, columnsOf};
 
 // What stands in the status's place.
 pub enum Mark {
@@ -50,16 +52,40 @@ fn signed_figure(millionths: i64) -> Figure
     }
 }
 
-// What a status shows of a figure.
+// The figure of a setting.
+fn setting_figure(setting: Setting) -> Figure
+    ensures { λ r. ⌜ r ≡ settingFigure setting ⌝ }
+{
+    match setting {
+        Setting::SelectedAzimuth { degrees, .. } => whole_figure(0, degrees as u64),
+        Setting::GreatestGlideAngle { tenths } => whole_figure(1, tenths as u64),
+        Setting::SelectedGlideAngle { tenths, .. } => whole_figure(1, tenths as u64),
+    }
+}
+
+// The figure of a value.
+fn figure_of(value: Value) -> Figure
+    ensures { λ r. ⌜ r ≡ figureOf value ⌝ }
+{
+    match value {
+        Value::Azimuth(count) => signed_figure(printing::azimuth_millionths(count)),
+        Value::Course(count) => signed_figure(printing::course_millionths(count)),
+        Value::Glide(count) => signed_figure(printing::glide_millionths(count)),
+        Value::MlsAzimuth(count) => signed_figure(printing::mls_azimuth_millionths(count)),
+        Value::MlsGlide(count) => signed_figure(printing::mls_glide_millionths(count)),
+        Value::Frequency(frequency) => whole_figure(2, frequency as u64),
+        Value::Setting(setting) => setting_figure(setting),
+    }
+}
+
+// What a status shows of a figure: none where it shows no reading.
 fn figure_under(status: Status, figure: Figure) -> Figure
     ensures { λ r. ⌜ r ≡ figureUnder status figure ⌝ }
 {
-    match status {
-        Status::Failure => Figure::Absent,
-        Status::NoData => Figure::Absent,
-        Status::Test => figure,
-        Status::Ready => figure,
+    if views::is_shown(status) {
+        return figure;
     }
+    Figure::Absent
 }
 
 // A word with a status.
@@ -86,70 +112,8 @@ fn part_columns(part: u8, content: u64) -> Columns
 pub fn columns_of(body: Body) -> Columns
     ensures { λ r. ⌜ r ≡ columnsOf body ⌝ }
 {
-    match body {
-        Body::VorAzimuth {
-            status,
-            marker: _,
-            count,
-        } => status_columns(status, signed_figure(printing::azimuth_millionths(count))),
-        Body::VorFrequency { status, frequency } => status_columns(
-            status,
-            whole_figure(2, frequency as u64),
-        ),
-        Body::IlsCourse {
-            status,
-            inhibit: _,
-            count,
-        } => status_columns(status, signed_figure(printing::course_millionths(count))),
-        Body::IlsGlide {
-            status,
-            inhibit: _,
-            count,
-        } => status_columns(status, signed_figure(printing::glide_millionths(count))),
-        Body::IlsFrequency {
-            status,
-            category: _,
-            frequency,
-        } => status_columns(status, whole_figure(2, frequency as u64)),
-        Body::MlsFrequency { status, frequency } => status_columns(
-            status,
-            whole_figure(2, frequency as u64),
-        ),
-        Body::MlsAzimuthDeviation {
-            status,
-            inhibit: _,
-            clearance: _,
-            count,
-        } => status_columns(status, signed_figure(printing::mls_millionths(count))),
-        Body::MlsGlideDeviation {
-            status,
-            inhibit: _,
-            clearance: _,
-            count,
-        } => status_columns(status, signed_figure(printing::mls_millionths(count))),
-        Body::SelectedAzimuth {
-            status,
-            manual: _,
-            degrees,
-        } => status_columns(status, whole_figure(0, degrees as u64)),
-        Body::GreatestGlideAngle { status, tenths } => status_columns(
-            status,
-            whole_figure(1, tenths as u64),
-        ),
-        Body::SelectedGlideAngle {
-            status,
-            manual: _,
-            tenths,
-        } => status_columns(status, whole_figure(1, tenths as u64)),
-        Body::Part1 {
-            word_number,
-            content,
-        } => part_columns(1, word_number as u64 + 256 * (content as u64)),
-        Body::Part2 { content } => part_columns(2, content as u64),
-        Body::Part3 { content } => part_columns(3, content as u64),
-        Body::Part4 {
-            parity_good: _,
-            content,
-        } => part_columns(4, content as u64),
+    match views::view_of(body) {
+        View::Value(status, value) => status_columns(status, figure_of(value)),
+        View::Part(part, content) => part_columns(part, content as u64),
     }
 }

@@ -14,6 +14,7 @@ use Rattle.bits.specs.Complement.{complement-lt}
 use Rattle.bits.specs.Parity.{withParity, parity-lt}
 use Rattle.codes.specs.Codes.{binary-lt, decimal-lt, marker-lt, category-lt, flag-lt}
 use Rattle.frequencies.specs.Frequencies.{legalFrequency, tensCode, tens-code-lt}
+use Rattle.records.specs.All.{agree}
 use Rattle.records.specs.Kinds.{kindOf}
 use Rattle.records.specs.Layouts.{upperLayout}
 use Rattle.frequencies.specs.declared.Band.{Band}
@@ -55,21 +56,7 @@ fields-fit (Body.Part4 g c) e = (flag-lt g, (below c 65535 e, (lit< tt, tt)))
 
 -- bits 11 to 31 are 21 bits
 pub upper-size : (k : Kind) → size (upperLayout k) ≡ 21
-upper-size Kind.VorAzimuth = refl
-upper-size Kind.VorFrequency = refl
-upper-size Kind.IlsCourse = refl
-upper-size Kind.IlsGlide = refl
-upper-size Kind.IlsFrequency = refl
-upper-size Kind.MlsFrequency = refl
-upper-size Kind.MlsAzimuthDeviation = refl
-upper-size Kind.MlsGlideDeviation = refl
-upper-size Kind.SelectedAzimuth = refl
-upper-size Kind.GreatestGlideAngle = refl
-upper-size Kind.SelectedGlideAngle = refl
-upper-size Kind.Part1 = refl
-upper-size Kind.Part2 = refl
-upper-size Kind.Part3 = refl
-upper-size Kind.Part4 = refl
+upper-size = agree (λ k. size (upperLayout k)) (λ k. 21) refl
 
 pub upper-lt : (b : Body) → valuesLegal b ≡ true → upperBits b < 2 ^ 21
 upper-lt b e =

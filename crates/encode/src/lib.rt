@@ -45,70 +45,10 @@ fn codes_listed(body: Body) -> bool
     ensures { λ r. ⌜ r ≡ codesListed body ⌝ }
 {
     match body {
-        Body::VorAzimuth {
-            status: _,
-            marker: _,
-            count: _,
-        } => true,
-        Body::VorFrequency {
-            status,
-            frequency: _,
-        } => is_decimal(status),
-        Body::IlsCourse {
-            status: _,
-            inhibit: _,
-            count: _,
-        } => true,
-        Body::IlsGlide {
-            status: _,
-            inhibit: _,
-            count: _,
-        } => true,
-        Body::IlsFrequency {
-            status,
-            category: _,
-            frequency: _,
-        } => is_decimal(status),
-        Body::MlsFrequency {
-            status,
-            frequency: _,
-        } => is_decimal(status),
-        Body::MlsAzimuthDeviation {
-            status: _,
-            inhibit: _,
-            clearance: _,
-            count: _,
-        } => true,
-        Body::MlsGlideDeviation {
-            status: _,
-            inhibit: _,
-            clearance: _,
-            count: _,
-        } => true,
-        Body::SelectedAzimuth {
-            status: _,
-            manual: _,
-            degrees: _,
-        } => true,
-        Body::GreatestGlideAngle {
-            status: _,
-            tenths: _,
-        } => true,
-        Body::SelectedGlideAngle {
-            status: _,
-            manual: _,
-            tenths: _,
-        } => true,
-        Body::Part1 {
-            word_number: _,
-            content: _,
-        } => true,
-        Body::Part2 { content: _ } => true,
-        Body::Part3 { content: _ } => true,
-        Body::Part4 {
-            parity_good: _,
-            content: _,
-        } => true,
+        Body::VorFrequency { status, .. } => is_decimal(status),
+        Body::IlsFrequency { status, .. } => is_decimal(status),
+        Body::MlsFrequency { status, .. } => is_decimal(status),
+        _ => true,
     }
 }
 
@@ -117,67 +57,33 @@ fn values_legal(body: Body) -> bool
     ensures { λ r. ⌜ r ≡ valuesLegal body ⌝ }
 {
     match body {
-        Body::VorAzimuth {
-            status: _,
-            marker: _,
-            count,
-        } => is_narrow(count.0),
-        Body::VorFrequency {
-            status: _,
+        Body::VorAzimuth { count, .. } => is_narrow(count.0),
+        Body::VorFrequency { frequency, .. } => frequencies::is_legal_frequency(
+            Band::Vor,
             frequency,
-        } => frequencies::is_legal_frequency(Band::Vor, frequency),
-        Body::IlsCourse {
-            status: _,
-            inhibit: _,
-            count,
-        } => is_narrow(count.0),
-        Body::IlsGlide {
-            status: _,
-            inhibit: _,
-            count,
-        } => is_narrow(count.0),
-        Body::IlsFrequency {
-            status: _,
-            category: _,
+        ),
+        Body::IlsCourse { count, .. } => is_narrow(count.0),
+        Body::IlsGlide { count, .. } => is_narrow(count.0),
+        Body::IlsFrequency { frequency, .. } => frequencies::is_legal_frequency(
+            Band::Ils,
             frequency,
-        } => frequencies::is_legal_frequency(Band::Ils, frequency),
-        Body::MlsFrequency {
-            status: _,
+        ),
+        Body::MlsFrequency { frequency, .. } => frequencies::is_legal_frequency(
+            Band::Mls,
             frequency,
-        } => frequencies::is_legal_frequency(Band::Mls, frequency),
-        Body::MlsAzimuthDeviation {
-            status: _,
-            inhibit: _,
-            clearance: _,
-            count,
-        } => is_wide(count.0),
-        Body::MlsGlideDeviation {
-            status: _,
-            inhibit: _,
-            clearance: _,
-            count,
-        } => is_wide(count.0),
-        Body::SelectedAzimuth {
-            status: _,
-            manual: _,
-            degrees,
-        } => degrees <= 359,
-        Body::GreatestGlideAngle { status: _, tenths } => tenths <= 255,
-        Body::SelectedGlideAngle {
-            status: _,
-            manual: _,
-            tenths,
-        } => tenths <= 511,
+        ),
+        Body::MlsAzimuthDeviation { count, .. } => is_wide(count.0),
+        Body::MlsGlideDeviation { count, .. } => is_wide(count.0),
+        Body::SelectedAzimuth { degrees, .. } => degrees <= 359,
+        Body::GreatestGlideAngle { tenths, .. } => tenths <= 255,
+        Body::SelectedGlideAngle { tenths, .. } => tenths <= 511,
         Body::Part1 {
             word_number,
             content,
         } => (word_number <= 255) & (content <= 255),
         Body::Part2 { content } => content <= 65535,
         Body::Part3 { content } => content <= 65535,
-        Body::Part4 {
-            parity_good: _,
-            content,
-        } => content <= 65535,
+        Body::Part4 { content, .. } => content <= 65535,
     }
 }
 

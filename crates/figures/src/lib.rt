@@ -33,25 +33,16 @@ fn quantity_of(kind: Kind) -> Measured
 {
     match kind {
         Kind::VorAzimuth => Measured::As(Quantity::Azimuth),
-        Kind::VorFrequency => Measured::Nothing,
         Kind::IlsCourse => Measured::As(Quantity::Course),
         Kind::IlsGlide => Measured::As(Quantity::Glide),
-        Kind::IlsFrequency => Measured::Nothing,
-        Kind::MlsFrequency => Measured::Nothing,
         Kind::MlsAzimuthDeviation => Measured::As(Quantity::MlsAzimuth),
         Kind::MlsGlideDeviation => Measured::As(Quantity::MlsGlide),
-        Kind::SelectedAzimuth => Measured::Nothing,
-        Kind::GreatestGlideAngle => Measured::Nothing,
-        Kind::SelectedGlideAngle => Measured::Nothing,
-        Kind::Part1 => Measured::Nothing,
-        Kind::Part2 => Measured::Nothing,
-        Kind::Part3 => Measured::Nothing,
-        Kind::Part4 => Measured::Nothing,
+        _ => Measured::Nothing,
     }
 }
 
 // The quantity that words of a label measure. A label above 255 is none.
-fn find_quantity(label: u64) -> Measured
+pub fn find_quantity(label: u64) -> Measured
     ensures { λ r. ⌜ r ≡ quantityAt document01 label ⌝ }
 {
     if 255 < label {
@@ -150,75 +141,19 @@ pub fn code_figure(label: u64, source: u64, millionths: i64) -> Encoded
     }
 }
 
-// The quantity and the count in a body.
-fn measurement_of(body: Body) -> Measurement
+// The quantity and the count that a body holds, under every status.
+pub fn measurement_of(body: Body) -> Measurement
     ensures { λ r. ⌜ r ≡ measurementOf body ⌝ }
 {
     match body {
-        Body::VorAzimuth {
-            status: _,
-            marker: _,
-            count,
-        } => Measurement::Count(Quantity::Azimuth, count.0),
-        Body::VorFrequency {
-            status: _,
-            frequency: _,
-        } => Measurement::Nothing,
-        Body::IlsCourse {
-            status: _,
-            inhibit: _,
-            count,
-        } => Measurement::Count(Quantity::Course, count.0),
-        Body::IlsGlide {
-            status: _,
-            inhibit: _,
-            count,
-        } => Measurement::Count(Quantity::Glide, count.0),
-        Body::IlsFrequency {
-            status: _,
-            category: _,
-            frequency: _,
-        } => Measurement::Nothing,
-        Body::MlsFrequency {
-            status: _,
-            frequency: _,
-        } => Measurement::Nothing,
-        Body::MlsAzimuthDeviation {
-            status: _,
-            inhibit: _,
-            clearance: _,
-            count,
-        } => Measurement::Count(Quantity::MlsAzimuth, count.0),
-        Body::MlsGlideDeviation {
-            status: _,
-            inhibit: _,
-            clearance: _,
-            count,
-        } => Measurement::Count(Quantity::MlsGlide, count.0),
-        Body::SelectedAzimuth {
-            status: _,
-            manual: _,
-            degrees: _,
-        } => Measurement::Nothing,
-        Body::GreatestGlideAngle {
-            status: _,
-            tenths: _,
-        } => Measurement::Nothing,
-        Body::SelectedGlideAngle {
-            status: _,
-            manual: _,
-            tenths: _,
-        } => Measurement::Nothing,
-        Body::Part1 {
-            word_number: _,
-            content: _,
-        } => Measurement::Nothing,
-        Body::Part2 { content: _ } => Measurement::Nothing,
-        Body::Part3 { content: _ } => Measurement::Nothing,
-        Body::Part4 {
-            parity_good: _,
-            content: _,
-        } => Measurement::Nothing,
+        Body::VorAzimuth { count, .. } => Measurement::Count(Quantity::Azimuth, count.0),
+        Body::IlsCourse { count, .. } => Measurement::Count(Quantity::Course, count.0),
+        Body::IlsGlide { count, .. } => Measurement::Count(Quantity::Glide, count.0),
+        Body::MlsAzimuthDeviation { count, .. } => {
+            Measurement::Count(Quantity::MlsAzimuth, count.0)
+        }
+        Body::MlsGlideDeviation { count, .. } => Measurement::Count(Quantity::MlsGlide, count.0),
+        _ => Measurement::Nothing,
     }
 }
 

@@ -12,7 +12,7 @@ use Rattle.records.specs.declared.Kind.{Kind}
 use Rattle.records.specs.declared.Record.{Record}
 use Rattle.refusals.specs.declared.Refusal.{Refusal}
 use Rattle.codes.specs.declared.Status.{Status}
-use Rattle.labels.specs.Table.{kinds}
+use Rattle.records.specs.All.{kinds}
 use Rattle.labels.specs.declared.Lookup.{Lookup}
 use Rattle.decode.specs.declared.Decoded.{Decoded}
 use Rattle.flat_fields.specs.declared.Fields.{Fields}

@@ -1,13 +1,12 @@
 // Figures coded and counts printed, as numbers for other languages.
+use figures::Measured;
 use flat_words::FlatWord;
-use labels::Lookup;
 use quantities::Quantity;
-use records::Kind;
 ghost use mathlib.Core.Path.{_≡_};
 ghost use Rattle.encode.specs.Encode.{narrow, wide};
-ghost use Rattle.figures.specs.Coding.{codedOf, quantityOf};
+ghost use Rattle.figures.specs.Coding.{codedOf};
 ghost use Rattle.flat_words.specs.Words.{flatWord};
-ghost use Rattle.flat_figures.specs.Printing.{holds, refused, printed, printedMeasured, printedOf};
+ghost use Rattle.flat_figures.specs.Printing.{holds, refused, printed, printedOf};
 
 // A figure in millionths, or its refusal's number beside the figure 0.
 #[repr(C)]
@@ -73,35 +72,12 @@ fn printed(quantity: Quantity, count: i64) -> FlatMillionths
     }
 }
 
-// The figure of a count of a kind of word, or 2 or 6.
-fn printed_kind(kind: Kind, count: i64) -> FlatMillionths
-    ensures { λ r. ⌜ r ≡ printedMeasured (quantityOf kind) count ⌝ }
-{
-    match kind {
-        Kind::VorAzimuth => printed(Quantity::Azimuth, count),
-        Kind::VorFrequency => refused(2),
-        Kind::IlsCourse => printed(Quantity::Course, count),
-        Kind::IlsGlide => printed(Quantity::Glide, count),
-        Kind::IlsFrequency => refused(2),
-        Kind::MlsFrequency => refused(2),
-        Kind::MlsAzimuthDeviation => printed(Quantity::MlsAzimuth, count),
-        Kind::MlsGlideDeviation => printed(Quantity::MlsGlide, count),
-        Kind::SelectedAzimuth => refused(2),
-        Kind::GreatestGlideAngle => refused(2),
-        Kind::SelectedGlideAngle => refused(2),
-        Kind::Part1 => refused(2),
-        Kind::Part2 => refused(2),
-        Kind::Part3 => refused(2),
-        Kind::Part4 => refused(2),
-    }
-}
-
 // The figure in millionths of a count, under a label: 2 where the label has no measured quantity, 6 where its bits do not hold the count.
 pub fn print_count_flat(label: u32, count: i64) -> FlatMillionths
     ensures { λ r. ⌜ r ≡ printedOf label count ⌝ }
 {
-    match labels::find_kind(label) {
-        Lookup::Known(kind) => printed_kind(kind, count),
-        Lookup::Unknown => refused(2),
+    match figures::find_quantity(label as u64) {
+        Measured::As(quantity) => printed(quantity, count),
+        Measured::Nothing => refused(2),
     }
 }

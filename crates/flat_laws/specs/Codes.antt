@@ -13,7 +13,7 @@ use Rattle.codes.specs.declared.Category.{Category}
 use Rattle.records.specs.declared.Kind.{Kind}
 use Rattle.codes.specs.declared.Marker.{Marker}
 use Rattle.codes.specs.declared.Status.{Status}
-use Rattle.labels.specs.Table.{kinds}
+use Rattle.records.specs.All.{kinds}
 use Rattle.labels.specs.declared.Lookup.{Lookup}
 use Rattle.flat_records.specs.Numbers.{statusNumber}
 use Rattle.flat_fields.specs.Fields.{statusOf, statusListed, flagListed, kindIn, kindAt}

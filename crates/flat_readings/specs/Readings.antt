@@ -12,7 +12,7 @@ use Rattle.decode.specs.Decode.{decodeOf}
 use Rattle.decode.specs.declared.Decoded.{Decoded}
 use Rattle.readings.specs.Readings.{readingOf}
 use Rattle.readings.specs.declared.Reading.{Reading}
-use Rattle.readings.specs.declared.Setting.{Setting}
+use Rattle.views.specs.declared.Setting.{Setting}
 use Rattle.readings.specs.declared.Shown.{Shown}
 use Rattle.flat_readings.specs.declared.FlatReading.{FlatReading}
 

@@ -2,8 +2,8 @@
 use chart::Charted;
 use decode::Decoded;
 use readings::Reading;
-use readings::Setting;
 use readings::Shown;
+use views::Setting;
 ghost use mathlib.Core.Path.{_≡_};
 ghost use lib.IntN.{pos};
 ghost use Rattle.chart.specs.Words.{chartPoint};

@@ -1,11 +1,11 @@
 -- A one-to-one assignment of labels to kinds, over which decoding and encoding are stated. Document 01's is the one that the words have.
 -- Assumes nothing.
-use mathlib.Core.Path.{_≡_}
+use mathlib.Core.Path.{_≡_, refl}
 use Prim.Native.Nat.{ℕ, _<_}
-use lib.Dec.{lit<}
+use lib.Dec.{ltb, ltb→lt}
+use Rattle.records.specs.All.{kinds, every}
 use Rattle.records.specs.declared.Kind.{Kind}
-use Rattle.records.specs.declared.Kind.the-variants.{VorAzimuth, VorFrequency, IlsCourse, IlsGlide, IlsFrequency, MlsFrequency, MlsAzimuthDeviation, MlsGlideDeviation, SelectedAzimuth, GreatestGlideAngle, SelectedGlideAngle, Part1, Part2, Part3, Part4}
-use Rattle.labels.specs.Table.{labelNumber, kinds, rows, findKind, found, only}
+use Rattle.labels.specs.Table.{labelNumber, rows, findKind, found, only}
 use Rattle.labels.specs.declared.Lookup.{Lookup}
 use Rattle.labels.specs.declared.Lookup.the-variants.{Known}
 
@@ -19,21 +19,7 @@ pub record Assignment : Type 0 where
   pub only : (l : ℕ) (k : Kind) → kind l ≡ Known k → label k ≡ l
 
 pub short : (k : Kind) → labelNumber k < 256
-short VorAzimuth = lit< tt
-short VorFrequency = lit< tt
-short IlsCourse = lit< tt
-short IlsGlide = lit< tt
-short IlsFrequency = lit< tt
-short MlsFrequency = lit< tt
-short MlsAzimuthDeviation = lit< tt
-short MlsGlideDeviation = lit< tt
-short SelectedAzimuth = lit< tt
-short GreatestGlideAngle = lit< tt
-short SelectedGlideAngle = lit< tt
-short Part1 = lit< tt
-short Part2 = lit< tt
-short Part3 = lit< tt
-short Part4 = lit< tt
+short k = ltb→lt (labelNumber k) 256 (every (λ k. ltb (labelNumber k) 256) refl k)
 
 -- document 01's labels
 abbrev pub document01 : Assignment

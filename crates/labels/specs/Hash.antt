@@ -6,10 +6,11 @@ use Prim.Native.Nat.{ℕ, _*_, _/_, _%_}
 use native.Mathlib.Nat.{div-one}
 use lib.ListN.{getD}
 use Rattle.bits.specs.Fields.{bits}
+use Rattle.records.specs.All.{kinds, agree}
 use Rattle.records.specs.declared.Kind.{Kind}
 use Rattle.records.specs.declared.Kind.the-variants.{VorAzimuth, VorFrequency, IlsCourse, IlsGlide, IlsFrequency, MlsFrequency, MlsAzimuthDeviation, MlsGlideDeviation, SelectedAzimuth, GreatestGlideAngle, SelectedGlideAngle, Part1, Part2, Part3, Part4}
 use Rattle.labels.specs.Label.{labelOf, label-twice, label-low, label-byte}
-use Rattle.labels.specs.Table.{labelNumber, kinds, rows, findKind, found, only}
+use Rattle.labels.specs.Table.{labelNumber, rows, findKind, found, only}
 use Rattle.labels.specs.Assignment.{short}
 use Rattle.labels.specs.declared.Lookup.{Lookup}
 use Rattle.labels.specs.declared.Lookup.the-variants.{Known, Unknown}
@@ -32,22 +33,9 @@ byteOf Part2 = 0x86
 byteOf Part3 = 0x46
 byteOf Part4 = 0xc6
 
+-- which is turned, as in every word
 byte-label : (k : Kind) → byteOf k ≡ labelOf (labelNumber k)
-byte-label VorAzimuth = refl
-byte-label VorFrequency = refl
-byte-label IlsCourse = refl
-byte-label IlsGlide = refl
-byte-label IlsFrequency = refl
-byte-label MlsFrequency = refl
-byte-label MlsAzimuthDeviation = refl
-byte-label MlsGlideDeviation = refl
-byte-label SelectedAzimuth = refl
-byte-label GreatestGlideAngle = refl
-byte-label SelectedGlideAngle = refl
-byte-label Part1 = refl
-byte-label Part2 = refl
-byte-label Part3 = refl
-byte-label Part4 = refl
+byte-label = agree byteOf (λ k. labelOf (labelNumber k)) refl
 
 -- the kind whose byte has each hash, from 0 to 15; no kind's has 7, where part 4 stands again
 abbrev pub hashed : List Kind
@@ -63,21 +51,7 @@ candidateOf b = getD hashed (hash b) VorAzimuth
 
 -- no two kinds' bytes have the same hash
 own : (k : Kind) → candidateOf (byteOf k) ≡ k
-own VorAzimuth = refl
-own VorFrequency = refl
-own IlsCourse = refl
-own IlsGlide = refl
-own IlsFrequency = refl
-own MlsFrequency = refl
-own MlsAzimuthDeviation = refl
-own MlsGlideDeviation = refl
-own SelectedAzimuth = refl
-own GreatestGlideAngle = refl
-own SelectedGlideAngle = refl
-own Part1 = refl
-own Part2 = refl
-own Part3 = refl
-own Part4 = refl
+own = agree (λ k. candidateOf (byteOf k)) (λ k. k) refl
 
 low-byte : (w : ℕ) → bits 1 8 w ≡ w % 256
 low-byte w = ap (λ (x : ℕ). x % 256) (div-one w)

@@ -9,6 +9,7 @@ use borrow.Author.Tests.{eqb-true}
 use lib.Dec.{eqb}
 use lib.ListN.{getD}
 use Rattle.bits.specs.Layout.{mask}
+use Rattle.records.specs.All.{kinds, agree}
 use Rattle.records.specs.Layouts.{wordLayout}
 use Rattle.records.specs.declared.Kind.{Kind}
 use Rattle.records.specs.declared.Kind.the-variants.{VorAzimuth, VorFrequency, IlsCourse, IlsGlide, IlsFrequency, MlsFrequency, MlsAzimuthDeviation, MlsGlideDeviation, SelectedAzimuth, GreatestGlideAngle, SelectedGlideAngle, Part1, Part2, Part3, Part4}
@@ -33,11 +34,6 @@ labelNumber Part2 = 0o141
 labelNumber Part3 = 0o142
 labelNumber Part4 = 0o143
 
--- the fifteen kinds in the table's order
-abbrev pub kinds : List Kind
-kinds =
-    VorAzimuth ∷ VorFrequency ∷ IlsCourse ∷ IlsGlide ∷ IlsFrequency ∷ MlsFrequency ∷ MlsAzimuthDeviation ∷ MlsGlideDeviation ∷ SelectedAzimuth ∷ GreatestGlideAngle ∷ SelectedGlideAngle ∷ Part1 ∷ Part2 ∷ Part3 ∷ Part4 ∷ []
-
 -- a kind's row: its label, and ones just where its layout has zero bits
 unfoldable pub rowOf : Kind → Row
 rowOf k = record { label = labelNumber k; kind = k; zeros = mask (wordLayout k) }
@@ -56,21 +52,7 @@ findKind (r ∷ rs) l = cond (eqb l (r .label)) (Known (r .kind)) (findKind rs l
 -- the label of every kind finds that kind
 pub found : (k : Kind) → findKind rows (labelNumber k) ≡ Known k
 unfolding rowOf
-found VorAzimuth = refl
-found VorFrequency = refl
-found IlsCourse = refl
-found IlsGlide = refl
-found IlsFrequency = refl
-found MlsFrequency = refl
-found MlsAzimuthDeviation = refl
-found MlsGlideDeviation = refl
-found SelectedAzimuth = refl
-found GreatestGlideAngle = refl
-found SelectedGlideAngle = refl
-found Part1 = refl
-found Part2 = refl
-found Part3 = refl
-found Part4 = refl
+found = agree (λ k. findKind rows (labelNumber k)) Known refl
 
 -- only its own label finds a kind
 pub only : (ks : List Kind) (l : ℕ) (k : Kind) → findKind (map rowOf ks) l ≡ Known k → labelNumber k ≡ l

@@ -28,9 +28,16 @@ pub fn glide_millionths(count: GlideCount) -> i64
     quantities::millionths(Quantity::Glide, count.0)
 }
 
-// A count of either MLS deviation as a figure, in millionths of a millivolt.
-pub fn mls_millionths(count: MlsCount) -> i64
+// A count of the MLS azimuth deviation as a figure, in millionths of a millivolt.
+pub fn mls_azimuth_millionths(count: MlsCount) -> i64
     ensures { λ r. ⌜ r ≡ millionthsOf Quantity.MlsAzimuth (count .0) ⌝ }
 {
     quantities::millionths(Quantity::MlsAzimuth, count.0)
+}
+
+// A count of the MLS glide deviation as a figure, in millionths of a millivolt.
+pub fn mls_glide_millionths(count: MlsCount) -> i64
+    ensures { λ r. ⌜ r ≡ millionthsOf Quantity.MlsGlide (count .0) ⌝ }
+{
+    quantities::millionths(Quantity::MlsGlide, count.0)
 }

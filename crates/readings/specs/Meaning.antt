@@ -13,8 +13,11 @@ use Rattle.codes.specs.declared.Status.{Status}
 use Rattle.doubles.specs.Exact.{IsExactly, IsCount}
 use Rattle.doubles.specs.Nearest.{IsNearest}
 use Rattle.doubles.specs.Doubles.{degreesOf, courseOf, glideOf, degrees-exact, course-nearest, glide-nearest}
+use Rattle.views.specs.Views.{viewOf}
+use Rattle.views.specs.declared.Setting.{Setting}
+use Rattle.views.specs.declared.Value.{Value}
+use Rattle.views.specs.declared.View.{View}
 use Rattle.readings.specs.Readings.{shownUnder, readingOf}
-use Rattle.readings.specs.declared.Setting.{Setting}
 use Rattle.readings.specs.declared.Reading.{Reading}
 use Rattle.readings.specs.declared.Shown.{Shown}
 
@@ -85,23 +88,23 @@ IsTest (Shown.Ready r) = ⊥
 IsTest (Shown.Test r) = Unit {0}
 IsTest Shown.Absent = ⊥
 
--- the count, where a body has one, is of the 16 bits that a record holds it in
+-- the count, where a value has one, is of the 16 bits that a record holds it in
+abbrev pub ValueFits : Value → Type 0
+ValueFits (Value.Azimuth count) = IsCount (count .0)
+ValueFits (Value.Course count) = IsCount (count .0)
+ValueFits (Value.Glide count) = IsCount (count .0)
+ValueFits (Value.MlsAzimuth count) = IsCount (count .0)
+ValueFits (Value.MlsGlide count) = IsCount (count .0)
+ValueFits (Value.Frequency frequency) = Unit {0}
+ValueFits (Value.Setting setting) = Unit {0}
+
+-- the same for a view, and for a body
+abbrev pub ViewFits : View → Type 0
+ViewFits (View.Value status value) = ValueFits value
+ViewFits (View.Part part content) = Unit {0}
+
 abbrev pub CountFits : Body → Type 0
-CountFits (Body.VorAzimuth status marker count) = IsCount (count .0)
-CountFits (Body.VorFrequency status frequency) = Unit {0}
-CountFits (Body.IlsCourse status inhibit count) = IsCount (count .0)
-CountFits (Body.IlsGlide status inhibit count) = IsCount (count .0)
-CountFits (Body.IlsFrequency status category frequency) = Unit {0}
-CountFits (Body.MlsFrequency status frequency) = Unit {0}
-CountFits (Body.MlsAzimuthDeviation status inhibit clearance count) = IsCount (count .0)
-CountFits (Body.MlsGlideDeviation status inhibit clearance count) = IsCount (count .0)
-CountFits (Body.SelectedAzimuth status manual degrees) = Unit {0}
-CountFits (Body.GreatestGlideAngle status tenths) = Unit {0}
-CountFits (Body.SelectedGlideAngle status manual tenths) = Unit {0}
-CountFits (Body.Part1 number content) = Unit {0}
-CountFits (Body.Part2 content) = Unit {0}
-CountFits (Body.Part3 content) = Unit {0}
-CountFits (Body.Part4 good content) = Unit {0}
+CountFits body = ViewFits (viewOf body)
 
 -- ---- the fifteen kinds are of two sorts: with a status, which decides whether the reading is shown, and parts
 

@@ -4,7 +4,9 @@ use lib.IntN.{ℤ, pos, _*ℤ_}
 use Rattle.records.specs.declared.Body.{Body}
 use Rattle.codes.specs.declared.Status.{Status}
 use Rattle.doubles.specs.Doubles.{degreesOf, courseOf, glideOf}
-use Rattle.readings.specs.declared.Setting.{Setting}
+use Rattle.views.specs.Views.{viewOf}
+use Rattle.views.specs.declared.Value.{Value}
+use Rattle.views.specs.declared.View.{View}
 use Rattle.readings.specs.declared.Reading.{Reading}
 use Rattle.readings.specs.declared.Shown.{Shown}
 
@@ -24,6 +26,15 @@ glideReading count = Reading.DepthDifference (glideOf count)
 abbrev pub mlsReading : ℤ → Reading
 mlsReading count = Reading.Nanovolts (count *ℤ pos 73200)
 
+abbrev pub valueReading : Value → Reading
+valueReading (Value.Azimuth count) = azimuthReading (count .0)
+valueReading (Value.Course count) = courseReading (count .0)
+valueReading (Value.Glide count) = glideReading (count .0)
+valueReading (Value.MlsAzimuth count) = mlsReading (count .0)
+valueReading (Value.MlsGlide count) = mlsReading (count .0)
+valueReading (Value.Frequency frequency) = Reading.Frequency frequency
+valueReading (Value.Setting setting) = Reading.Setting setting
+
 -- a reading is there exactly under ready and test, and test is marked
 abbrev pub shownUnder : Status → Reading → Shown
 shownUnder Status.Failure reading = Shown.Absent
@@ -32,19 +43,9 @@ shownUnder Status.Test reading = Shown.Test reading
 shownUnder Status.Ready reading = Shown.Ready reading
 
 -- parts have none
+abbrev pub shownIn : View → Shown
+shownIn (View.Value status value) = shownUnder status (valueReading value)
+shownIn (View.Part part content) = Shown.Absent
+
 abbrev pub readingOf : Body → Shown
-readingOf (Body.VorAzimuth status marker count) = shownUnder status (azimuthReading (count .0))
-readingOf (Body.VorFrequency status frequency) = shownUnder status (Reading.Frequency frequency)
-readingOf (Body.IlsCourse status inhibit count) = shownUnder status (courseReading (count .0))
-readingOf (Body.IlsGlide status inhibit count) = shownUnder status (glideReading (count .0))
-readingOf (Body.IlsFrequency status category frequency) = shownUnder status (Reading.Frequency frequency)
-readingOf (Body.MlsFrequency status frequency) = shownUnder status (Reading.Frequency frequency)
-readingOf (Body.MlsAzimuthDeviation status inhibit clearance count) = shownUnder status (mlsReading (count .0))
-readingOf (Body.MlsGlideDeviation status inhibit clearance count) = shownUnder status (mlsReading (count .0))
-readingOf (Body.SelectedAzimuth status manual degrees) = shownUnder status (Reading.Setting (Setting.SelectedAzimuth manual degrees))
-readingOf (Body.GreatestGlideAngle status tenths) = shownUnder status (Reading.Setting (Setting.GreatestGlideAngle tenths))
-readingOf (Body.SelectedGlideAngle status manual tenths) = shownUnder status (Reading.Setting (Setting.SelectedGlideAngle manual tenths))
-readingOf (Body.Part1 number content) = Shown.Absent
-readingOf (Body.Part2 content) = Shown.Absent
-readingOf (Body.Part3 content) = Shown.Absent
-readingOf (Body.Part4 good content) = Shown.Absent
+readingOf body = shownIn (viewOf body)

@@ -5,19 +5,12 @@ use records::Body;
 use records::CourseCount;
 use records::GlideCount;
 use records::MlsCount;
+use views::Setting;
+use views::Value;
+use views::View;
 ghost use mathlib.Core.Path.{_≡_};
-ghost use Rattle.readings.specs.Meaning.{Shows};
-ghost use Rattle.readings.specs.Readings.{azimuthReading, courseReading, glideReading, mlsReading, shownUnder, readingOf};
-
-// What was selected, or sent as the greatest, by hand or not where the word tells it.
-pub enum Setting {
-    // 153, in degrees
-    SelectedAzimuth { manual: bool, degrees: u16 },
-    // 154, in tenths of a degree
-    GreatestGlideAngle { tenths: u16 },
-    // 155, in tenths of a degree
-    SelectedGlideAngle { manual: bool, tenths: u16 },
-}
+ghost use Rattle.readings.specs.Meaning.{ValueFits, Shows};
+ghost use Rattle.readings.specs.Readings.{azimuthReading, courseReading, glideReading, mlsReading, valueReading, shownUnder, readingOf};
 
 // A quantity with its unit (document 01's term is a reading).
 pub enum Reading {
@@ -72,6 +65,22 @@ fn mls_reading(count: MlsCount) -> Reading
     Reading::Nanovolts((number as i64) * 73200)
 }
 
+// The reading of a value; its count, if it has one, is of 16 bits.
+fn value_reading(value: Value) -> Reading
+    ensures operations { λ r. ⌜ r ≡ valueReading value ⌝ }
+    ensures fits { λ r. ⌜ ValueFits value ⌝ }
+{
+    match value {
+        Value::Azimuth(count) => azimuth_reading(count),
+        Value::Course(count) => course_reading(count),
+        Value::Glide(count) => glide_reading(count),
+        Value::MlsAzimuth(count) => mls_reading(count),
+        Value::MlsGlide(count) => mls_reading(count),
+        Value::Frequency(frequency) => Reading::Frequency(frequency),
+        Value::Setting(setting) => Reading::Setting(setting),
+    }
+}
+
 // What a status shows of a reading.
 fn shown_under(status: Status, reading: Reading) -> Shown
     ensures { λ r. ⌜ r ≡ shownUnder status reading ⌝ }
@@ -89,76 +98,8 @@ pub fn reading_of(body: Body) -> Shown
     ensures operations { λ r. ⌜ r ≡ readingOf body ⌝ }
     ensures values { λ r. ⌜ Shows body r ⌝ }
 {
-    match body {
-        Body::VorAzimuth {
-            status,
-            marker: _,
-            count,
-        } => shown_under(status, azimuth_reading(count)),
-        Body::VorFrequency { status, frequency } => shown_under(
-            status,
-            Reading::Frequency(frequency),
-        ),
-        Body::IlsCourse {
-            status,
-            inhibit: _,
-            count,
-        } => shown_under(status, course_reading(count)),
-        Body::IlsGlide {
-            status,
-            inhibit: _,
-            count,
-        } => shown_under(status, glide_reading(count)),
-        Body::IlsFrequency {
-            status,
-            category: _,
-            frequency,
-        } => shown_under(status, Reading::Frequency(frequency)),
-        Body::MlsFrequency { status, frequency } => shown_under(
-            status,
-            Reading::Frequency(frequency),
-        ),
-        Body::MlsAzimuthDeviation {
-            status,
-            inhibit: _,
-            clearance: _,
-            count,
-        } => shown_under(status, mls_reading(count)),
-        Body::MlsGlideDeviation {
-            status,
-            inhibit: _,
-            clearance: _,
-            count,
-        } => shown_under(status, mls_reading(count)),
-        Body::SelectedAzimuth {
-            status,
-            manual,
-            degrees,
-        } => shown_under(
-            status,
-            Reading::Setting(Setting::SelectedAzimuth { manual, degrees }),
-        ),
-        Body::GreatestGlideAngle { status, tenths } => shown_under(
-            status,
-            Reading::Setting(Setting::GreatestGlideAngle { tenths }),
-        ),
-        Body::SelectedGlideAngle {
-            status,
-            manual,
-            tenths,
-        } => shown_under(
-            status,
-            Reading::Setting(Setting::SelectedGlideAngle { manual, tenths }),
-        ),
-        Body::Part1 {
-            word_number: _,
-            content: _,
-        } => Shown::Absent,
-        Body::Part2 { content: _ } => Shown::Absent,
-        Body::Part3 { content: _ } => Shown::Absent,
-        Body::Part4 {
-            parity_good: _,
-            content: _,
-        } => Shown::Absent,
+    match views::view_of(body) {
+        View::Value(status, value) => shown_under(status, value_reading(value)),
+        View::Part(_, _) => Shown::Absent,
     }
 }

@@ -1,11 +1,10 @@
 -- Document 01's table of layouts: the fields and the zero bits of each kind of word.
 -- Assumes nothing.
-use mathlib.Core.Bool.{Bool, true, _&&_}
 use mathlib.Core.List.{List, [], _∷_, _++_}
 use mathlib.Core.Path.{_≡_, refl}
-use Prim.Native.Nat.{ℕ}
 use lib.Dec.{T}
 use Rattle.bits.specs.Layout.{Segment, field, zeros, contiguous, size}
+use Rattle.records.specs.All.{agree, every}
 use Rattle.records.specs.declared.Kind.{Kind}
 use Rattle.records.specs.declared.Kind.the-variants.{VorAzimuth, VorFrequency, IlsCourse, IlsGlide, IlsFrequency, MlsFrequency, MlsAzimuthDeviation, MlsGlideDeviation, SelectedAzimuth, GreatestGlideAngle, SelectedGlideAngle, Part1, Part2, Part3, Part4}
 
@@ -45,19 +44,8 @@ abbrev pub wordLayout : Kind → List Segment
 wordLayout k = lowerLayout k ++ (field 32 32 ∷ [])
 
 -- every layout has each of the 32 bits once
-pub whole : (k : Kind) → T (contiguous 0 (wordLayout k)) × (size (wordLayout k) ≡ 32)
-whole VorAzimuth = (tt, refl)
-whole VorFrequency = (tt, refl)
-whole IlsCourse = (tt, refl)
-whole IlsGlide = (tt, refl)
-whole IlsFrequency = (tt, refl)
-whole MlsFrequency = (tt, refl)
-whole MlsAzimuthDeviation = (tt, refl)
-whole MlsGlideDeviation = (tt, refl)
-whole SelectedAzimuth = (tt, refl)
-whole GreatestGlideAngle = (tt, refl)
-whole SelectedGlideAngle = (tt, refl)
-whole Part1 = (tt, refl)
-whole Part2 = (tt, refl)
-whole Part3 = (tt, refl)
-whole Part4 = (tt, refl)
+pub whole : (k : Kind) → T (contiguous 0 (wordLayout k))
+whole = every (λ k. contiguous 0 (wordLayout k)) refl
+
+pub whole-size : (k : Kind) → size (wordLayout k) ≡ 32
+whole-size = agree (λ k. size (wordLayout k)) (λ k. 32) refl

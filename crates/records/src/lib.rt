@@ -119,69 +119,20 @@ pub fn kind_of(body: Body) -> Kind
     ensures { λ r. ⌜ r ≡ kindOf body ⌝ }
 {
     match body {
-        Body::VorAzimuth {
-            status: _,
-            marker: _,
-            count: _,
-        } => Kind::VorAzimuth,
-        Body::VorFrequency {
-            status: _,
-            frequency: _,
-        } => Kind::VorFrequency,
-        Body::IlsCourse {
-            status: _,
-            inhibit: _,
-            count: _,
-        } => Kind::IlsCourse,
-        Body::IlsGlide {
-            status: _,
-            inhibit: _,
-            count: _,
-        } => Kind::IlsGlide,
-        Body::IlsFrequency {
-            status: _,
-            category: _,
-            frequency: _,
-        } => Kind::IlsFrequency,
-        Body::MlsFrequency {
-            status: _,
-            frequency: _,
-        } => Kind::MlsFrequency,
-        Body::MlsAzimuthDeviation {
-            status: _,
-            inhibit: _,
-            clearance: _,
-            count: _,
-        } => Kind::MlsAzimuthDeviation,
-        Body::MlsGlideDeviation {
-            status: _,
-            inhibit: _,
-            clearance: _,
-            count: _,
-        } => Kind::MlsGlideDeviation,
-        Body::SelectedAzimuth {
-            status: _,
-            manual: _,
-            degrees: _,
-        } => Kind::SelectedAzimuth,
-        Body::GreatestGlideAngle {
-            status: _,
-            tenths: _,
-        } => Kind::GreatestGlideAngle,
-        Body::SelectedGlideAngle {
-            status: _,
-            manual: _,
-            tenths: _,
-        } => Kind::SelectedGlideAngle,
-        Body::Part1 {
-            word_number: _,
-            content: _,
-        } => Kind::Part1,
-        Body::Part2 { content: _ } => Kind::Part2,
-        Body::Part3 { content: _ } => Kind::Part3,
-        Body::Part4 {
-            parity_good: _,
-            content: _,
-        } => Kind::Part4,
+        Body::VorAzimuth { .. } => Kind::VorAzimuth,
+        Body::VorFrequency { .. } => Kind::VorFrequency,
+        Body::IlsCourse { .. } => Kind::IlsCourse,
+        Body::IlsGlide { .. } => Kind::IlsGlide,
+        Body::IlsFrequency { .. } => Kind::IlsFrequency,
+        Body::MlsFrequency { .. } => Kind::MlsFrequency,
+        Body::MlsAzimuthDeviation { .. } => Kind::MlsAzimuthDeviation,
+        Body::MlsGlideDeviation { .. } => Kind::MlsGlideDeviation,
+        Body::SelectedAzimuth { .. } => Kind::SelectedAzimuth,
+        Body::GreatestGlideAngle { .. } => Kind::GreatestGlideAngle,
+        Body::SelectedGlideAngle { .. } => Kind::SelectedGlideAngle,
+        Body::Part1 { .. } => Kind::Part1,
+        Body::Part2 { .. } => Kind::Part2,
+        Body::Part3 { .. } => Kind::Part3,
+        Body::Part4 { .. } => Kind::Part4,
     }
 }

@@ -14,7 +14,7 @@ use Rattle.bits.specs.Layout.{field, split, join, size, clear, Clear, Fit, cont
 use Rattle.bits.specs.Laws.{both-true, join-split, split-join, clear-test, split-last, clear-last, contiguous-last, size-last, fit-last, join-last}
 use Rattle.bits.specs.Parity.{withParity, parityBit, parity-only, parity-odd, parity-lt}
 use Rattle.records.specs.Kinds.{kindOf}
-use Rattle.records.specs.Layouts.{layout, upperLayout, lowerLayout, wordLayout, whole}
+use Rattle.records.specs.Layouts.{layout, upperLayout, lowerLayout, wordLayout, whole, whole-size}
 use Rattle.records.specs.declared.Body.{Body}
 use Rattle.records.specs.declared.Kind.{Kind}
 use Rattle.records.specs.declared.Record.{Record}
@@ -35,12 +35,12 @@ use Rattle.roundtrip.specs.Forth.{Holds, at, forth}
 -- ---- a word, decoded and encoded
 
 lower-size : (k : Kind) → size (lowerLayout k) ≡ 31
-lower-size k = omega (arith, size-last (lowerLayout k) 31 1, whole k .1)
+lower-size k = omega (arith, size-last (lowerLayout k) 31 1, whole-size k)
 
 -- the fields below the parity bit of a word that reads as kind k, joined, are its lower 31 bits
 lower-back : (k : Kind) (w : ℕ) → clear (wordLayout k) w ≡ true → join (lowerLayout k) (split (lowerLayout k) w) ≡ w % 2 ^ 31
 lower-back k w z =
-    join-split 0 (lowerLayout k) w (contiguous-last 0 (lowerLayout k) (field 32 32) (whole k .0))
+    join-split 0 (lowerLayout k) w (contiguous-last 0 (lowerLayout k) (field 32 32) (whole k))
     (clear-last (lowerLayout k) 31 1 w .0 (clear-test (wordLayout k) w .0 z))
     ∙ ap₂ (λ (x n : ℕ). x % 2 ^ n) (div-one w) (lower-size k)
 
@@ -121,7 +121,7 @@ module _ (a : Assignment) (r : Record) (l : Written r) where
             ∙ ap (λ (n : ℕ). p * 2 ^ n + lowerBits a r) (lower-size k),
       ) in
       subst (λ (x : ℕ). (split (wordLayout k) x ≡ values ++ (p ∷ [])) × Clear (wordLayout k) x) j
-      (split-join 0 (wordLayout k) (values ++ (p ∷ [])) 0 (whole k .0)
+      (split-join 0 (wordLayout k) (values ++ (p ∷ [])) 0 (whole k)
       (fit-last (lowerLayout k) values 31 1 p values-fit (omega arith)) (lit< tt))
 
   record-read : decodeWith a (wordOf a r) ≡ Decoded.Accepted r

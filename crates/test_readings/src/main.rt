@@ -3,8 +3,8 @@ use chart::Charted;
 use decode::Decoded;
 use libc::STDOUT_FILENO;
 use readings::Reading;
-use readings::Setting;
 use readings::Shown;
+use views::Setting;
 
 // The double by the literal that it is equal to.
 fn print_double(x: f64) {

@@ -5,9 +5,10 @@ use Prim.Native.Nat.{ℕ, suc}
 use lib.Dec.{eqb}
 use lib.IntN.{ℤ, pos, negsuc}
 use Rattle.refusals.specs.Numbers.{numberOf}
-use Rattle.records.specs.declared.Body.{Body}
 use Rattle.decode.specs.Decode.{decodeOf}
 use Rattle.decode.specs.declared.Decoded.{Decoded}
+use Rattle.figures.specs.Agreement.{measurementOf}
+use Rattle.figures.specs.declared.Measurement.{Measurement}
 use Rattle.test_words.specs.declared.Expected.{Expected}
 
 -- the number of a word's refusal
@@ -16,25 +17,12 @@ refusalIn (Decoded.Accepted r) = 0
 refusalIn (Decoded.Refused f) = numberOf f
 
 -- the count of a word of the five measured labels
-abbrev pub countIn : Body → ℤ
-countIn (Body.VorAzimuth status marker count) = count .0
-countIn (Body.VorFrequency status frequency) = pos 0
-countIn (Body.IlsCourse status inhibit count) = count .0
-countIn (Body.IlsGlide status inhibit count) = count .0
-countIn (Body.IlsFrequency status category frequency) = pos 0
-countIn (Body.MlsFrequency status frequency) = pos 0
-countIn (Body.MlsAzimuthDeviation status inhibit clearance count) = count .0
-countIn (Body.MlsGlideDeviation status inhibit clearance count) = count .0
-countIn (Body.SelectedAzimuth status manual degrees) = pos 0
-countIn (Body.GreatestGlideAngle status tenths) = pos 0
-countIn (Body.SelectedGlideAngle status manual tenths) = pos 0
-countIn (Body.Part1 number content) = pos 0
-countIn (Body.Part2 content) = pos 0
-countIn (Body.Part3 content) = pos 0
-countIn (Body.Part4 good content) = pos 0
+abbrev pub countIn : Measurement → ℤ
+countIn (Measurement.Count q c) = c
+countIn Measurement.Nothing = pos 0
 
 abbrev pub countOf : Decoded → ℤ
-countOf (Decoded.Accepted r) = countIn (r .body)
+countOf (Decoded.Accepted r) = countIn (measurementOf (r .body))
 countOf (Decoded.Refused f) = pos 0
 
 -- a number is written with this sign and size

@@ -1,8 +1,8 @@
 // Decodes each word of the test vectors and compares its refusal and its count with what its line says: a word in hexadecimal, the number of
 // its refusal (0: accepted) and its count (0 where it has none), between single spaces. In the second file three lines are wrong.
 use decode::Decoded;
+use figures::Measurement;
 use libc::STDOUT_FILENO;
-use records::Body;
 ghost use mathlib.Core.Path.{_≡_};
 ghost use Prim.Native.Nat.{_+_, _<_, _≤_};
 ghost use lib.ListN.{length};
@@ -41,74 +41,12 @@ fn refusal_of(word: u32) -> u32
 }
 
 // The count of a word of the five measured labels.
-fn count_in(body: Body) -> i16
-    ensures { λ r. ⌜ r ≡ countIn body ⌝ }
+fn count_in(measurement: Measurement) -> i16
+    ensures { λ r. ⌜ r ≡ countIn measurement ⌝ }
 {
-    match body {
-        Body::VorAzimuth {
-            status: _,
-            marker: _,
-            count,
-        } => count.0,
-        Body::VorFrequency {
-            status: _,
-            frequency: _,
-        } => 0,
-        Body::IlsCourse {
-            status: _,
-            inhibit: _,
-            count,
-        } => count.0,
-        Body::IlsGlide {
-            status: _,
-            inhibit: _,
-            count,
-        } => count.0,
-        Body::IlsFrequency {
-            status: _,
-            category: _,
-            frequency: _,
-        } => 0,
-        Body::MlsFrequency {
-            status: _,
-            frequency: _,
-        } => 0,
-        Body::MlsAzimuthDeviation {
-            status: _,
-            inhibit: _,
-            clearance: _,
-            count,
-        } => count.0,
-        Body::MlsGlideDeviation {
-            status: _,
-            inhibit: _,
-            clearance: _,
-            count,
-        } => count.0,
-        Body::SelectedAzimuth {
-            status: _,
-            manual: _,
-            degrees: _,
-        } => 0,
-        Body::GreatestGlideAngle {
-            status: _,
-            tenths: _,
-        } => 0,
-        Body::SelectedGlideAngle {
-            status: _,
-            manual: _,
-            tenths: _,
-        } => 0,
-        Body::Part1 {
-            word_number: _,
-            content: _,
-        } => 0,
-        Body::Part2 { content: _ } => 0,
-        Body::Part3 { content: _ } => 0,
-        Body::Part4 {
-            parity_good: _,
-            content: _,
-        } => 0,
+    match measurement {
+        Measurement::Count(_, count) => count,
+        Measurement::Nothing => 0,
     }
 }
 
@@ -119,7 +57,7 @@ fn count_of(word: u32) -> i16
     match decode::decode(word) {
         Decoded::Accepted(found) => {
             let body = found.body;
-            count_in(body)
+            count_in(figures::measurement_of(body))
         }
         Decoded::Refused(_) => 0,
     }

@@ -19,7 +19,7 @@ use Rattle.decode.proofs.decode_kind.Tie as tie
 -- the row's mask finds the zero bits of the kind
 masked : (k : Kind) (w : ℕ) (r : Row) → r ≡ rowOf k → eqb (bitAnd w (r .zeros)) 0 ≡ clear (wordLayout k) w
 unfolding rowOf
-masked k w r e = ap (λ (x : Row). eqb (bitAnd w (x .zeros)) 0) e ∙ mask-test (wordLayout k) w (whole k .0)
+masked k w r e = ap (λ (x : Row). eqb (bitAnd w (x .zeros)) 0) e ∙ mask-test (wordLayout k) w (whole k)
 
 row-of-requires : tie.Need-row-of-requires
 row-of-requires c κs = search needs

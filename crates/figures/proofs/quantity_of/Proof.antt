@@ -1,8 +1,38 @@
--- Each arm by its kind.
+-- Each arm by its kind; the kinds that are left measure nothing.
 -- Assumes nothing.
+use mathlib.Core.List.{List, [], _∷_}
+use mathlib.Core.Path.{_≡_, refl, sym, ap}
+use Prim.Native.Nat.{ℕ}
 use borrow.Author.Needs.{needs}
+use denote.Enum.Declared.{tagOf}
+use types.Run.{OneOf, miss}
+use Rattle.records.proofs.Kind as T
+use Rattle.records.specs.declared.Kind.{Kind}
+use Rattle.figures.specs.Coding.{quantityOf}
+use Rattle.figures.specs.declared.Measured.{Measured}
 use Rattle.figures.proofs.quantity_of.Statement.{statement}
 use Rattle.figures.proofs.quantity_of.Tie as tie
+
+-- the kinds that are not named
+abbrev others : List ℕ
+others = 1 ∷ 4 ∷ 5 ∷ 8 ∷ 9 ∷ 10 ∷ 11 ∷ 12 ∷ 13 ∷ 14 ∷ []
+
+other : (k : Kind) → OneOf others (tagOf T.the-type k) → Measured.Nothing ≡ quantityOf k
+other Kind.VorAzimuth h = absurd (miss others 0 tt h)
+other Kind.VorFrequency h = refl
+other Kind.IlsCourse h = absurd (miss others 2 tt h)
+other Kind.IlsGlide h = absurd (miss others 3 tt h)
+other Kind.IlsFrequency h = refl
+other Kind.MlsFrequency h = refl
+other Kind.MlsAzimuthDeviation h = absurd (miss others 6 tt h)
+other Kind.MlsGlideDeviation h = absurd (miss others 7 tt h)
+other Kind.SelectedAzimuth h = refl
+other Kind.GreatestGlideAngle h = refl
+other Kind.SelectedGlideAngle h = refl
+other Kind.Part1 h = refl
+other Kind.Part2 h = refl
+other Kind.Part3 h = refl
+other Kind.Part4 h = refl
 
 enum-told : tie.Need-enum-told
 enum-told c = search needs
@@ -19,80 +49,23 @@ enum-told-4 c = search needs
 enum-told-5 : tie.Need-enum-told-5
 enum-told-5 c = search needs
 
-enum-told-6 : tie.Need-enum-told-6
-enum-told-6 c = search needs
-
-enum-told-7 : tie.Need-enum-told-7
-enum-told-7 c = search needs
-
-enum-told-8 : tie.Need-enum-told-8
-enum-told-8 c = search needs
-
-enum-told-9 : tie.Need-enum-told-9
-enum-told-9 c = search needs
-
-enum-told-10 : tie.Need-enum-told-10
-enum-told-10 c = search needs
-
-enum-told-11 : tie.Need-enum-told-11
-enum-told-11 c = search needs
-
-enum-told-12 : tie.Need-enum-told-12
-enum-told-12 c = search needs
-
-enum-told-13 : tie.Need-enum-told-13
-enum-told-13 c = search needs
-
-enum-told-14 : tie.Need-enum-told-14
-enum-told-14 c = search needs
-
-enum-told-15 : tie.Need-enum-told-15
-enum-told-15 c = search needs
-
 returns : tie.Need-returns
-returns c = rw (c .enum-told .given .1)
+returns c = ap quantityOf (sym (c .enum-told .given .1))
 
 returns-2 : tie.Need-returns-2
-returns-2 c = search needs
+returns-2 c = ap quantityOf (sym (c .enum-told2 .given .1))
 
 returns-3 : tie.Need-returns-3
-returns-3 c = rw (c .enum-told3 .given .1)
+returns-3 c = ap quantityOf (sym (c .enum-told3 .given .1))
 
 returns-4 : tie.Need-returns-4
-returns-4 c = rw (c .enum-told4 .given .1)
+returns-4 c = ap quantityOf (sym (c .enum-told4 .given .1))
 
 returns-5 : tie.Need-returns-5
-returns-5 c = search needs
+returns-5 c = ap quantityOf (sym (c .enum-told5 .given .1))
 
 returns-6 : tie.Need-returns-6
-returns-6 c = search needs
-
-returns-7 : tie.Need-returns-7
-returns-7 c = rw (c .enum-told7 .given .1)
-
-returns-8 : tie.Need-returns-8
-returns-8 c = rw (c .enum-told8 .given .1)
-
-returns-9 : tie.Need-returns-9
-returns-9 c = search needs
-
-returns-10 : tie.Need-returns-10
-returns-10 c = search needs
-
-returns-11 : tie.Need-returns-11
-returns-11 c = search needs
-
-returns-12 : tie.Need-returns-12
-returns-12 c = search needs
-
-returns-13 : tie.Need-returns-13
-returns-13 c = search needs
-
-returns-14 : tie.Need-returns-14
-returns-14 c = search needs
-
-returns-15 : tie.Need-returns-15
-returns-15 c = search needs
+returns-6 c = other (c .before .args .kind) (c .match .keys6)
 
 pub quantity-of-spec : {M : Type 1} → statement M
 quantity-of-spec =
@@ -103,28 +76,9 @@ quantity-of-spec =
     enum-told-3
     enum-told-4
     enum-told-5
-    enum-told-6
-    enum-told-7
-    enum-told-8
-    enum-told-9
-    enum-told-10
-    enum-told-11
-    enum-told-12
-    enum-told-13
-    enum-told-14
-    enum-told-15
     returns
     returns-2
     returns-3
     returns-4
     returns-5
-    returns-6
-    returns-7
-    returns-8
-    returns-9
-    returns-10
-    returns-11
-    returns-12
-    returns-13
-    returns-14
-    returns-15)
+    returns-6)

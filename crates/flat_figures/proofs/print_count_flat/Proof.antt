@@ -1,23 +1,22 @@
--- By whether the label is known.
+-- By whether words of the label measure a quantity.
 -- Assumes nothing.
 use mathlib.Core.Path.{sym, ap, _∙_}
+use borrow.Author.Needs.{needs}
 use mir.Syntax.{w64}
 use mir.Facts.{toZ-ofZ}
-use Rattle.labels.specs.declared.Lookup.{Lookup}
-use Rattle.figures.specs.Coding.{quantityOf, quantityFound}
-use Rattle.flat_figures.specs.Printing.{printedMeasured}
-use borrow.Author.Needs.{needs}
+use Rattle.figures.specs.declared.Measured.{Measured}
+use Rattle.flat_figures.specs.Printing.{printed, printedMeasured}
 use Rattle.flat_figures.proofs.print_count_flat.Statement.{statement}
 use Rattle.flat_figures.proofs.print_count_flat.Tie as tie
 
-find-kind-requires : tie.Need-find-kind-requires
-find-kind-requires c κs = search needs
+find-quantity-requires : tie.Need-find-quantity-requires
+find-quantity-requires c κs = search needs
 
-enum-known-kind : tie.Need-enum-known-kind
-enum-known-kind c = search needs
+enum-known-quantity : tie.Need-enum-known-quantity
+enum-known-quantity c = search needs
 
-printed-kind-requires : tie.Need-printed-kind-requires
-printed-kind-requires c κs = search needs
+printed-requires : tie.Need-printed-requires
+printed-requires c κs = search needs
 
 enum-told : tie.Need-enum-told
 enum-told c = search needs
@@ -27,23 +26,24 @@ refused-requires c κs = search needs
 
 returns : tie.Need-returns
 returns c =
-    let start = c .before .before .before .before .before .args in
-    c .printed-kind .ensures
-    ∙ ap (printedMeasured (quantityOf (c .before .before .kind .given .0 .0))) (toZ-ofZ {w = w64} {z = start .count} (search needs))
-    ∙ ap (λ (l : Lookup). printedMeasured (quantityFound l) (start .count)) (sym (c .before .before .kind .given .1) ∙ c .before .before .before .before .find-kind .ensures)
+    let start = c .before .before .before .before .before in
+    let q = c .before .before .quantity .given in
+    c .printed .ensures
+    ∙ ap (printed (q .0 .0)) (toZ-ofZ {w = w64} {z = start .args .count} (search needs))
+    ∙ ap (λ (m : Measured). printedMeasured m (start .args .count)) (sym (q .1) ∙ c .before .before .before .before .find-quantity .ensures)
 
 returns-2 : tie.Need-returns-2
 returns-2 c =
     c .refused .ensures
-    ∙ ap (λ (l : Lookup). printedMeasured (quantityFound l) (c .before .before .before .before .args .count)) (sym (c .before .enum-told .given .1) ∙ c .before .before .before .find-kind .ensures)
+    ∙ ap (λ (m : Measured). printedMeasured m (c .before .before .before .before .args .count)) (sym (c .before .enum-told .given .1) ∙ c .before .before .before .find-quantity .ensures)
 
 pub print-count-flat-spec : {M : Type 1} → statement M
 print-count-flat-spec =
     tie.close
     (tie.spec
-    find-kind-requires
-    enum-known-kind
-    printed-kind-requires
+    find-quantity-requires
+    enum-known-quantity
+    printed-requires
     enum-told
     refused-requires
     returns

@@ -4,7 +4,8 @@ use mathlib.Core.Path.{_∙_}
 use borrow.Author.Needs.{needs}
 use lib.ListN.{List·getD-map}
 use Rattle.records.specs.declared.Kind.the-variants.{VorAzimuth}
-use Rattle.labels.specs.Table.{rows, rowOf, kinds}
+use Rattle.records.specs.All.{kinds}
+use Rattle.labels.specs.Table.{rows, rowOf}
 use Rattle.labels.proofs.Rows.{getD-within}
 use Rattle.labels.proofs.row_at.Statement.{statement}
 use Rattle.labels.proofs.row_at.Tie as tie

@@ -1,6 +1,8 @@
 -- Each arm reads the row at the place of its own kind.
 -- Assumes nothing.
+use mathlib.Core.Path.{sym, ap, _∙_}
 use borrow.Author.Needs.{needs}
+use Rattle.labels.specs.Table.{rowOf}
 use Rattle.labels.proofs.row_of.Statement.{statement}
 use Rattle.labels.proofs.row_of.Tie as tie
 
@@ -95,49 +97,49 @@ row-at-requires-15 : tie.Need-row-at-requires-15
 row-at-requires-15 c κs = search needs
 
 returns : tie.Need-returns
-returns c = cc
+returns c = c .row-at .ensures ∙ ap rowOf (sym (c .before .enum-told .given .1))
 
 returns-2 : tie.Need-returns-2
-returns-2 c = cc
+returns-2 c = c .row-at2 .ensures ∙ ap rowOf (sym (c .before .enum-told2 .given .1))
 
 returns-3 : tie.Need-returns-3
-returns-3 c = cc
+returns-3 c = c .row-at3 .ensures ∙ ap rowOf (sym (c .before .enum-told3 .given .1))
 
 returns-4 : tie.Need-returns-4
-returns-4 c = cc
+returns-4 c = c .row-at4 .ensures ∙ ap rowOf (sym (c .before .enum-told4 .given .1))
 
 returns-5 : tie.Need-returns-5
-returns-5 c = cc
+returns-5 c = c .row-at5 .ensures ∙ ap rowOf (sym (c .before .enum-told5 .given .1))
 
 returns-6 : tie.Need-returns-6
-returns-6 c = cc
+returns-6 c = c .row-at6 .ensures ∙ ap rowOf (sym (c .before .enum-told6 .given .1))
 
 returns-7 : tie.Need-returns-7
-returns-7 c = cc
+returns-7 c = c .row-at7 .ensures ∙ ap rowOf (sym (c .before .enum-told7 .given .1))
 
 returns-8 : tie.Need-returns-8
-returns-8 c = cc
+returns-8 c = c .row-at8 .ensures ∙ ap rowOf (sym (c .before .enum-told8 .given .1))
 
 returns-9 : tie.Need-returns-9
-returns-9 c = cc
+returns-9 c = c .row-at9 .ensures ∙ ap rowOf (sym (c .before .enum-told9 .given .1))
 
 returns-10 : tie.Need-returns-10
-returns-10 c = cc
+returns-10 c = c .row-at10 .ensures ∙ ap rowOf (sym (c .before .enum-told10 .given .1))
 
 returns-11 : tie.Need-returns-11
-returns-11 c = cc
+returns-11 c = c .row-at11 .ensures ∙ ap rowOf (sym (c .before .enum-told11 .given .1))
 
 returns-12 : tie.Need-returns-12
-returns-12 c = cc
+returns-12 c = c .row-at12 .ensures ∙ ap rowOf (sym (c .before .enum-told12 .given .1))
 
 returns-13 : tie.Need-returns-13
-returns-13 c = cc
+returns-13 c = c .row-at13 .ensures ∙ ap rowOf (sym (c .before .enum-told13 .given .1))
 
 returns-14 : tie.Need-returns-14
-returns-14 c = cc
+returns-14 c = c .row-at14 .ensures ∙ ap rowOf (sym (c .before .enum-told14 .given .1))
 
 returns-15 : tie.Need-returns-15
-returns-15 c = cc
+returns-15 c = c .row-at15 .ensures ∙ ap rowOf (sym (c .before .enum-told15 .given .1))
 
 pub row-of-spec : {M : Type 1} → statement M
 row-of-spec =

@@ -1,131 +1,22 @@
--- Each arm by the kind that it is for; a signed count reads back as itself.
+-- By its two cases; a count is the number that its 16 bits hold.
 -- Assumes nothing.
 use borrow.Author.Needs.{needs}
+use mir.Syntax.{w16}
 use mir.Facts.{toZ-ofZ}
 use Rattle.test_words.proofs.count_in.Statement.{statement}
 use Rattle.test_words.proofs.count_in.Tie as tie
 
-enum-known-body : tie.Need-enum-known-body
-enum-known-body c = search needs
+enum-known-measurement : tie.Need-enum-known-measurement
+enum-known-measurement c = search needs
 
 enum-told : tie.Need-enum-told
 enum-told c = search needs
 
-enum-known-body-2 : tie.Need-enum-known-body-2
-enum-known-body-2 c = search needs
-
-enum-known-body-3 : tie.Need-enum-known-body-3
-enum-known-body-3 c = search needs
-
-enum-told-2 : tie.Need-enum-told-2
-enum-told-2 c = search needs
-
-enum-told-3 : tie.Need-enum-told-3
-enum-told-3 c = search needs
-
-enum-known-body-4 : tie.Need-enum-known-body-4
-enum-known-body-4 c = search needs
-
-enum-known-body-5 : tie.Need-enum-known-body-5
-enum-known-body-5 c = search needs
-
-enum-told-4 : tie.Need-enum-told-4
-enum-told-4 c = search needs
-
-enum-told-5 : tie.Need-enum-told-5
-enum-told-5 c = search needs
-
-enum-told-6 : tie.Need-enum-told-6
-enum-told-6 c = search needs
-
-enum-told-7 : tie.Need-enum-told-7
-enum-told-7 c = search needs
-
-enum-told-8 : tie.Need-enum-told-8
-enum-told-8 c = search needs
-
-enum-told-9 : tie.Need-enum-told-9
-enum-told-9 c = search needs
-
-enum-told-10 : tie.Need-enum-told-10
-enum-told-10 c = search needs
-
 returns : tie.Need-returns
-returns c = rw (c .before .before .body .given .1) (toZ-ofZ (search needs))
+returns c = rw (c .before .measurement .given .1, toZ-ofZ {w = w16} {z = c .before .measurement .given .0 .1 .0} (search needs))
 
 returns-2 : tie.Need-returns-2
 returns-2 c = rw (c .enum-told .given .1)
 
-returns-3 : tie.Need-returns-3
-returns-3 c = rw (c .before .before .body2 .given .1) (toZ-ofZ (search needs))
-
-returns-4 : tie.Need-returns-4
-returns-4 c = rw (c .before .before .body3 .given .1) (toZ-ofZ (search needs))
-
-returns-5 : tie.Need-returns-5
-returns-5 c = rw (c .enum-told2 .given .1)
-
-returns-6 : tie.Need-returns-6
-returns-6 c = rw (c .enum-told3 .given .1)
-
-returns-7 : tie.Need-returns-7
-returns-7 c = rw (c .before .before .body4 .given .1) (toZ-ofZ (search needs))
-
-returns-8 : tie.Need-returns-8
-returns-8 c = rw (c .before .before .body5 .given .1) (toZ-ofZ (search needs))
-
-returns-9 : tie.Need-returns-9
-returns-9 c = rw (c .enum-told4 .given .1)
-
-returns-10 : tie.Need-returns-10
-returns-10 c = rw (c .enum-told5 .given .1)
-
-returns-11 : tie.Need-returns-11
-returns-11 c = rw (c .enum-told6 .given .1)
-
-returns-12 : tie.Need-returns-12
-returns-12 c = rw (c .enum-told7 .given .1)
-
-returns-13 : tie.Need-returns-13
-returns-13 c = rw (c .enum-told8 .given .1)
-
-returns-14 : tie.Need-returns-14
-returns-14 c = rw (c .enum-told9 .given .1)
-
-returns-15 : tie.Need-returns-15
-returns-15 c = rw (c .enum-told10 .given .1)
-
 pub count-in-spec : {M : Type 1} → statement M
-count-in-spec =
-    tie.close
-    (tie.spec
-    enum-known-body
-    enum-told
-    enum-known-body-2
-    enum-known-body-3
-    enum-told-2
-    enum-told-3
-    enum-known-body-4
-    enum-known-body-5
-    enum-told-4
-    enum-told-5
-    enum-told-6
-    enum-told-7
-    enum-told-8
-    enum-told-9
-    enum-told-10
-    returns
-    returns-2
-    returns-3
-    returns-4
-    returns-5
-    returns-6
-    returns-7
-    returns-8
-    returns-9
-    returns-10
-    returns-11
-    returns-12
-    returns-13
-    returns-14
-    returns-15)
+count-in-spec = tie.close (tie.spec enum-known-measurement enum-told returns returns-2)

@@ -6,8 +6,8 @@ use mir.Syntax.{w16, w64}
 use mir.Facts.{toZ-ofZ}
 use Rattle.quantities.specs.Nearest.{millionthsOf}
 use Rattle.quantities.specs.declared.Quantity.{Quantity}
-use Rattle.printing.proofs.mls_millionths.Statement.{statement}
-use Rattle.printing.proofs.mls_millionths.Tie as tie
+use Rattle.printing.proofs.mls_azimuth_millionths.Statement.{statement}
+use Rattle.printing.proofs.mls_azimuth_millionths.Tie as tie
 
 millionths-requires : tie.Need-millionths-requires
 millionths-requires c κs = search needs
@@ -18,5 +18,5 @@ returns c =
     ∙ c .millionths .ensures
     ∙ ap (millionthsOf Quantity.MlsAzimuth) (toZ-ofZ {w = w16} {z = c .before .before .args .count .0} (search needs))
 
-pub mls-millionths-spec : {M : Type 1} → statement M
-mls-millionths-spec = tie.close (tie.spec millionths-requires returns)
+pub mls-azimuth-millionths-spec : {M : Type 1} → statement M
+mls-azimuth-millionths-spec = tie.close (tie.spec millionths-requires returns)
