@@ -54,7 +54,7 @@ number-length negative k places n h = omega (arith, length-append (sign negative
 whole-length : (places n : ℕ) → places ≤ 2 → n < 10 ^ 6 → Narrow (wholeFigure places n)
 whole-length places n p h = record { within = omega (arith, number-length false 5 places n (lt-of-le-of-lt (div-le-self n (10 ^ places)) h)) }
 
-natAbs-signed : (b : Bool) (n : ℕ) → natAbs (parts.signed b n) ≡ n
+natAbs-signed : (b : Bool) (n : ℕ) → natAbs (parts.withSign b n) ≡ n
 natAbs-signed false n = refl
 natAbs-signed true zero = refl
 natAbs-signed true (suc n) = refl
