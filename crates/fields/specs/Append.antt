@@ -16,16 +16,16 @@ use Rattle.fields.specs.declared.TagLookup.{TagLookup}
 use Rattle.fields.specs.declared.Start.{Start}
 use Rattle.fields.specs.Start.{kindOfTag, lengthAllowed, depthAllowed, judged, startOf}
 use Rattle.fields.specs.Run.{Field, Scan, Fields, Refused, _andThen_, inside, step, runOf}
-use Rattle.fields.specs.Laws.{stands, end-empty, run-step}
+use Rattle.fields.specs.Laws.{whole-field, end-empty, run-step}
 use Rattle.fields.specs.AndThenLemmas.{nothing-first, regroup}
 
 -- a scan without a refusal
-abbrev pub Legal : Scan → Type 0
-Legal (Fields fs) = Unit {0}
-Legal (Refused f p) = ⊥
+abbrev pub LegalRun : Scan → Type 0
+LegalRun (Fields fs) = Unit {0}
+LegalRun (Refused f p) = ⊥
 
 -- of two scans without a refusal the second has none
-second-legal : (x y : Scan) → Legal (x andThen y) → Legal y
+second-legal : (x y : Scan) → LegalRun (x andThen y) → LegalRun y
 second-legal (Fields fs) (Fields gs) h = tt
 second-legal (Fields fs) (Refused f p) h = h
 second-legal (Refused f p) y h = absurd h
@@ -66,13 +66,13 @@ joins-empty d p b =
     sym (ap₂ _andThen_ (run-step d p []) (ap (λ (q : ℕ). runOf d q b) (add-zero p)) ∙ nothing-first (runOf d p b))
 
 -- one step, if the rest of the run joins
-joins-step : (d p : ℕ) (a b : List ℕ) (s : Start) → startOf d a ≡ s → Legal (runOf d p a)
-    → ((k : FieldKind) (n : ℕ) → 3 + n ≤ length a → Legal (runOf d (p + 3 + n) (drop (3 + n) a)) → Joins d (p + 3 + n) (drop (3 + n) a) b)
+joins-step : (d p : ℕ) (a b : List ℕ) (s : Start) → startOf d a ≡ s → LegalRun (runOf d p a)
+    → ((k : FieldKind) (n : ℕ) → 3 + n ≤ length a → LegalRun (runOf d (p + 3 + n) (drop (3 + n) a)) → Joins d (p + 3 + n) (drop (3 + n) a) b)
     → Joins d p a b
 joins-step d p a b Start.End e legal rest = subst (λ (c : List ℕ). Joins d p c b) (sym (end-empty d a e)) (joins-empty d p b)
-joins-step d p a b (Start.Refused f) e legal rest = absurd (subst Legal (run-step d p a ∙ ap (step runOf d p a) e) legal)
+joins-step d p a b (Start.Refused f) e legal rest = absurd (subst LegalRun (run-step d p a ∙ ap (step runOf d p a) e) legal)
 joins-step d p a b (Start.Field k n) e legal rest =
-    let room : 3 + n ≤ length a = stands d a k n e .room in
+    let room : 3 + n ≤ length a = whole-field d a k n e .room in
     let left : length (drop 3 a) ≡ length a - 3 = length-drop 3 a in
     let short : length (drop (3 + n) a) ≡ length a - (3 + n) = length-drop (3 + n) a in
     let content : take n (drop 3 (a ++ b)) ≡ take n (drop 3 a) =
@@ -87,12 +87,12 @@ joins-step d p a b (Start.Field k n) e legal rest =
     run-step d p (a ++ b) ∙ ap (step runOf d p (a ++ b)) (start-more d a b k n e)
     ∙ ap₂ (λ (c t : List ℕ). Fields (record { place = p; depth = d; kind = k; content = c } ∷ []) andThen inside runOf k d p c andThen runOf d (p + 3 + n) t) content after
     ∙ ap (λ (t : Scan). f andThen i andThen t)
-    (rest k n room (second-legal i r (second-legal f (i andThen r) (subst Legal one legal)))
+    (rest k n room (second-legal i r (second-legal f (i andThen r) (subst LegalRun one legal)))
     ∙ ap (λ (q : ℕ). r andThen runOf d q b) end)
     ∙ sym (ap (λ (x : Scan). x andThen z) one ∙ regroup f (i andThen r) z ∙ ap (λ (x : Scan). f andThen x) (regroup i r z))
 
 -- by a bound on the first run's bytes
-joins : (m d p : ℕ) (a b : List ℕ) → length a ≤ m → Legal (runOf d p a) → Joins d p a b
+joins : (m d p : ℕ) (a b : List ℕ) → length a ≤ m → LegalRun (runOf d p a) → Joins d p a b
 joins zero d p a b bound legal = joins-step d p a b (startOf d a) refl legal (λ k n room l. absurd (omega arith))
 joins (suc m) d p a b bound legal =
     joins-step d p a b (startOf d a) refl legal
@@ -101,4 +101,4 @@ joins (suc m) d p a b bound legal =
 -- A legal run and another after it: the fields of the first, then the second at the offset where the first ends.
 pub append : (d p : ℕ) (a b : List ℕ) (fs : List Field) → runOf d p a ≡ Fields fs → runOf d p (a ++ b) ≡ Fields fs andThen runOf d (p + length a) b
 append d p a b fs e =
-    joins (length a) d p a b (le-refl (length a)) (subst Legal (sym e) tt) ∙ ap (λ (x : Scan). x andThen runOf d (p + length a) b) e
+    joins (length a) d p a b (le-refl (length a)) (subst LegalRun (sym e) tt) ∙ ap (λ (x : Scan). x andThen runOf d (p + length a) b) e

@@ -113,7 +113,7 @@ bytes-append : {xs ys : List ℕ} → Bytes xs → Bytes ys → Bytes (xs ++ ys)
 bytes-append no-byte b = b
 bytes-append (byte h a) b = byte h (bytes-append a b)
 
-bytes-written : (k : FieldKind) (c rest : List ℕ) → length c < 0x10000 → Bytes c → Bytes rest → Bytes (fieldBytes k c ++ rest)
+pub bytes-written : (k : FieldKind) (c rest : List ℕ) → length c < 0x10000 → Bytes c → Bytes rest → Bytes (fieldBytes k c ++ rest)
 bytes-written k c rest short b r =
     let high : length c / 256 < 256 = omega arith in
     let low : length c % 256 < 256 = omega arith in
@@ -144,7 +144,7 @@ bytes-drop zero b = b
 bytes-drop (suc n) no-byte = no-byte
 bytes-drop (suc n) (byte h b) = bytes-drop n b
 
-tag-known : (t : ℕ) (k : FieldKind) → kindOfTag t ≡ TagLookup.Known k → t ≡ tagOf k
+pub tag-known : (t : ℕ) (k : FieldKind) → kindOfTag t ≡ TagLookup.Known k → t ≡ tagOf k
 tag-known t k e = by (eqb t 0x10) refl (eqb t 0x11) refl (eqb t 0x12) refl (eqb t 0x20) refl e
   where
     by : (a : Bool) → eqb t 0x10 ≡ a → (b : Bool) → eqb t 0x11 ≡ b → (c : Bool) → eqb t 0x12 ≡ c → (g : Bool) → eqb t 0x20 ≡ g
@@ -158,17 +158,17 @@ tag-known t k e = by (eqb t 0x10) refl (eqb t 0x11) refl (eqb t 0x12) refl (eqb 
     by false ea false eb false ec false eg e = let z : _≡_ {A = ℕ} 0 1 = cc in absurd (omega arith)
 
 -- a run that starts with a field is that field's bytes and a rest
-record FirstField (d : ℕ) (k : FieldKind) (bs : List ℕ) : Type 0 where
-  content : List ℕ
-  rest : List ℕ
-  whole : bs ≡ fieldBytes k content ++ rest
-  long : lengthAllowed k (length content) ≡ true
-  deep : depthAllowed k d ≡ true
-  short : length content < 0x10000
-  contentBytes : Bytes content
-  restBytes : Bytes rest
+pub record FirstField (d : ℕ) (k : FieldKind) (bs : List ℕ) : Type 0 where
+  pub content : List ℕ
+  pub rest : List ℕ
+  pub whole : bs ≡ fieldBytes k content ++ rest
+  pub long : lengthAllowed k (length content) ≡ true
+  pub deep : depthAllowed k d ≡ true
+  pub short : length content < 0x10000
+  pub contentBytes : Bytes content
+  pub restBytes : Bytes rest
 
-first-field : (d : ℕ) (bs : List ℕ) (k : FieldKind) (n : ℕ) → Bytes bs → StartView d bs (Start.Field k n) → FirstField d k bs
+pub first-field : (d : ℕ) (bs : List ℕ) (k : FieldKind) (n : ℕ) → Bytes bs → StartView d bs (Start.Field k n) → FirstField d k bs
 first-field d bs k n (byte ht (byte hh (byte hl b))) (header t h l w j known room long deep) =
     let size : length (take n w) ≡ n = length-take-le n w room in
     let high : h ≡ length (take n w) / 256 = omega arith in

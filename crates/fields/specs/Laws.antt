@@ -47,15 +47,15 @@ start-view d (t ∷ h ∷ l ∷ w) = by (kindOfTag t) refl
     by (TagLookup.Known k) e = known k e (ltb (length w) (h * 256 + l)) refl (lengthAllowed k (h * 256 + l)) refl (depthAllowed k d) refl
 
 -- a field stands where the header is whole and known, its content fits, and its length and depth are allowed
-pub record Stands (d : ℕ) (bs : List ℕ) (k : FieldKind) (n : ℕ) : Type 0 where
+pub record WholeField (d : ℕ) (bs : List ℕ) (k : FieldKind) (n : ℕ) : Type 0 where
   pub room : 3 + n ≤ length bs
   pub long : lengthAllowed k n ≡ true
   pub deep : depthAllowed k d ≡ true
 
-pub stands : (d : ℕ) (bs : List ℕ) (k : FieldKind) (n : ℕ) → startOf d bs ≡ Start.Field k n → Stands d bs k n
-stands d bs k n e = by bs k n (subst (StartView d bs) e (start-view d bs))
+pub whole-field : (d : ℕ) (bs : List ℕ) (k : FieldKind) (n : ℕ) → startOf d bs ≡ Start.Field k n → WholeField d bs k n
+whole-field d bs k n e = by bs k n (subst (StartView d bs) e (start-view d bs))
   where
-    by : (bs : List ℕ) (k : FieldKind) (n : ℕ) → StartView d bs (Start.Field k n) → Stands d bs k n
+    by : (bs : List ℕ) (k : FieldKind) (n : ℕ) → StartView d bs (Start.Field k n) → WholeField d bs k n
     by bs k n (header t h l w j known room long deep) = record { room = omega arith; long = long; deep = deep }
 
 -- only an empty run is at its end
@@ -70,13 +70,13 @@ end-empty d bs e = by bs (subst (StartView d bs) e (start-view d bs))
 -- the rest after a field is shorter, and so is its content
 rest-shorter : (d : ℕ) (bs : List ℕ) (k : FieldKind) (n m : ℕ) → startOf d bs ≡ Start.Field k n → length bs ≤ suc m → length (drop (3 + n) bs) ≤ m
 rest-shorter d bs k n m e h =
-    let room : 3 + n ≤ length bs = stands d bs k n e .room in
+    let room : 3 + n ≤ length bs = whole-field d bs k n e .room in
     let rest : length (drop (3 + n) bs) ≡ length bs - (3 + n) = length-drop (3 + n) bs in
     omega arith
 
 content-shorter : (d : ℕ) (bs : List ℕ) (k : FieldKind) (n m : ℕ) → startOf d bs ≡ Start.Field k n → length bs ≤ suc m → length (take n (drop 3 bs)) ≤ m
 content-shorter d bs k n m e h =
-    let room : 3 + n ≤ length bs = stands d bs k n e .room in
+    let room : 3 + n ≤ length bs = whole-field d bs k n e .room in
     let after : length (drop 3 bs) ≡ length bs - 3 = length-drop 3 bs in
     let content : length (take n (drop 3 bs)) ≡ n = length-take-le n (drop 3 bs) (omega arith) in
     omega arith

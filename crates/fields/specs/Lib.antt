@@ -8,3 +8,6 @@ pub mod Grammar
 pub mod AndThenLemmas
 pub mod Append
 pub mod Moved
+pub mod Rules
+pub mod RulesLemmas
+pub mod Judged

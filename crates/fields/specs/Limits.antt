@@ -16,7 +16,7 @@ use Rattle.fields.specs.declared.FieldKind.{FieldKind}
 use Rattle.fields.specs.declared.Start.{Start}
 use Rattle.fields.specs.Start.{startOf}
 use Rattle.fields.specs.Run.{Field, Scan, Fields, Refused, _andThen_, inside, step, scan, runOf, sheetOf, insideOf}
-use Rattle.fields.specs.Laws.{StartView, refused, start-view, Stands, stands}
+use Rattle.fields.specs.Laws.{StartView, refused, start-view, WholeField, whole-field}
 
 -- ---- what is stated
 
@@ -66,7 +66,7 @@ bounded-in d p n d' p' n' (Refused f q) hd hp hn h = record { number = h .number
 
 -- a run whose steps are bounded, for its first field, its inside and the rest
 module _ (run : ℕ → ℕ → List ℕ → Scan) (shorter : (d p : ℕ) (bs : List ℕ) → d ≤ 4 → Bounded d p (length bs) (run d p bs)) (d p : ℕ) (bs : List ℕ) (top : d ≤ 4) where
-  inside-bounded : (k : FieldKind) (n : ℕ) → Stands d bs k n → Bounded d p (length bs) (inside run k d p (take n (drop 3 bs)))
+  inside-bounded : (k : FieldKind) (n : ℕ) → WholeField d bs k n → Bounded d p (length bs) (inside run k d p (take n (drop 3 bs)))
   inside-bounded FieldKind.Word n here = nothing
   inside-bounded FieldKind.Figure n here = nothing
   inside-bounded FieldKind.Note n here = nothing
@@ -82,7 +82,7 @@ module _ (run : ℕ → ℕ → List ℕ → Scan) (shorter : (d p : ℕ) (bs : 
   step-bounded Start.End v e = nothing
   step-bounded (Start.Refused f) (refused g xs number some) e = record { number = number; offset = (omega arith, omega arith) }
   step-bounded (Start.Field k n) v e =
-      let here = stands d bs k n e in
+      let here = whole-field d bs k n e in
       let room : 3 + n ≤ length bs = here .room in
       let left : length (drop 3 bs) ≡ length bs - 3 = length-drop 3 bs in
       let long : length (take n (drop 3 bs)) ≡ n = length-take-le n (drop 3 bs) (omega arith) in
@@ -146,31 +146,13 @@ sheet-refusal bs f p e = by (ltb 32768 (length bs)) refl
 pub offset-inside : (bs : List ℕ) (f : Refusal) (p : ℕ) → sheetOf bs ≡ Refused f p → p < length bs
 offset-inside bs f p e = ⊎-elim (λ a. omega (arith, a .0, a .2)) (λ b. omega (arith, b .1 .offset .1)) (sheet-refusal bs f p e)
 
--- ---- document 01's order and depths, by example
-
--- The header cut comes before the tag, the tag before the cut content, and that before a wrong length; a header is also cut by the end of its group, at an offset that counts in the sheet.
-pub order-of-refusals :
-    (sheetOf (0x13 ∷ 0 ∷ []) ≡ Refused Refusal.Truncated 0)
-    × (sheetOf (0x13 ∷ 0 ∷ 1 ∷ []) ≡ Refused Refusal.Tag 0)
-    × (sheetOf (0x10 ∷ 0 ∷ 1 ∷ []) ≡ Refused Refusal.Truncated 0)
-    × (sheetOf (0x10 ∷ 0 ∷ 1 ∷ 7 ∷ []) ≡ Refused Refusal.Length 0)
-    × (sheetOf (0x20 ∷ 0 ∷ 2 ∷ 0x12 ∷ 0 ∷ 0 ∷ []) ≡ Refused Refusal.Truncated 3)
-unfolding scan
-order-of-refusals = (refl, refl, refl, refl, refl)
+-- ---- depths, by example
 
 -- three groups in each other around the header of a field
 abbrev nested : (tag low : ℕ) → List ℕ
 nested tag low = 0x20 ∷ 0 ∷ 9 ∷ 0x20 ∷ 0 ∷ 6 ∷ 0x20 ∷ 0 ∷ 3 ∷ tag ∷ 0 ∷ low ∷ []
 
--- There a group is refused 12 though it is empty, and 9 where it is cut; the inside of a top group counts from depth 2.
-pub group-at-depth-4 :
-    (sheetOf (nested 0x20 0) ≡ Refused Refusal.Depth 9)
-    × (sheetOf (nested 0x20 1) ≡ Refused Refusal.Truncated 9)
-    × (insideOf (drop 3 (nested 0x20 0)) ≡ Refused Refusal.Depth 6)
-unfolding scan
-group-at-depth-4 = (refl, refl, refl)
-
--- There a note is legal; a group's field comes before the fields that it holds.
+-- Inside them, at depth 4, a note is legal; a group's field comes before the fields that it holds.
 pub note-at-depth-4 : sheetOf (nested 0x12 0)
     ≡ Fields
     (record { place = 0; depth = 1; kind = FieldKind.Group; content = 0x20 ∷ 0 ∷ 6 ∷ 0x20 ∷ 0 ∷ 3 ∷ 0x12 ∷ 0 ∷ 0 ∷ [] }

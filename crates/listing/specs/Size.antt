@@ -16,7 +16,7 @@ use Rattle.fields.specs.declared.FieldKind.{FieldKind}
 use Rattle.fields.specs.declared.Start.{Start}
 use Rattle.fields.specs.Start.{isLeaf, startOf}
 use Rattle.fields.specs.Run.{Field, Scan, Fields, Refused, _andThen_, inside, step, scan, runOf, sheetOf}
-use Rattle.fields.specs.Laws.{stands}
+use Rattle.fields.specs.Laws.{whole-field}
 use Rattle.fields.specs.Limits.{not-longer, longer, sheet-refusal}
 use Rattle.contents.specs.declared.WordIn.{WordIn}
 use Rattle.contents.specs.declared.FigureIn.{FigureIn}
@@ -67,7 +67,7 @@ step-owned run h d p bs (Start.Refused f) e = zero-le
 step-owned run h d p bs (Start.Field j n) e =
     let c : List ℕ = take n (drop 3 bs) in
     let rest : List ℕ = drop (3 + n) bs in
-    let room : 3 + n ≤ length bs = stands d bs j n e .room in
+    let room : 3 + n ≤ length bs = whole-field d bs j n e .room in
     let left : length (drop (3 + n) bs) ≡ length bs - (3 + n) = length-drop (3 + n) bs in
     let after : length (drop 3 bs) ≡ length bs - 3 = length-drop 3 bs in
     let long : length (take n (drop 3 bs)) ≡ n = length-take-le n (drop 3 bs) (omega arith) in

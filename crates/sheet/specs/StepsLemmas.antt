@@ -12,7 +12,7 @@ use Rattle.fields.specs.declared.FieldKind.{FieldKind}
 use Rattle.fields.specs.declared.Start.{Start}
 use Rattle.fields.specs.Start.{depthAllowed, startOf}
 use Rattle.fields.specs.Run.{Field, Scan, Fields, Refused, _andThen_, inside, step, runOf}
-use Rattle.fields.specs.Laws.{stands, run-step}
+use Rattle.fields.specs.Laws.{whole-field, run-step}
 use Rattle.sheet.specs.declared.Checked.{Checked}
 use Rattle.sheet.specs.declared.FieldChecked.{FieldChecked}
 use Rattle.sheet.specs.Checked.{checkedOf, afterInside, fieldFrom, fieldOf}
@@ -70,7 +70,7 @@ module _ (d o at : ℕ) (run : List ℕ) where
           within (Checked.Refused f p) e = let z : _≡_ {A = ℕ} 0 1 = cc in absurd (omega arith)
           within Checked.Legal e =
               let here : at + 3 + n ≡ m = cc in
-              let room : 3 + n ≤ length (drop at run) = stands d (drop at run) k n es .room in
+              let room : 3 + n ≤ length (drop at run) = whole-field d (drop at run) k n es .room in
               let left : length (drop at run) ≡ length run - at = length-drop at run in
               (omega arith, omega arith)
 
@@ -96,7 +96,7 @@ pub record StandsAt (at n : ℕ) (run : List ℕ) : Type 0 where
 
 pub stands-at : (d at : ℕ) (k : FieldKind) (n : ℕ) (run : List ℕ) → startOf d (drop at run) ≡ Start.Field k n → StandsAt at n run
 stands-at d at k n run e =
-    let room : 3 + n ≤ length (drop at run) = stands d (drop at run) k n e .room in
+    let room : 3 + n ≤ length (drop at run) = whole-field d (drop at run) k n e .room in
     let left : length (drop at run) ≡ length run - at = length-drop at run in
     let end : at + 3 + n ≤ length run = omega arith in
     let size : at + 3 + n - (at + 3) ≡ n = omega arith in
@@ -106,7 +106,7 @@ stands-at d at k n run e =
 -- a group stands above depth 4, and its check is that of its content one deeper, whose first byte lies three bytes after the tag
 module _ (d at n : ℕ) (run : List ℕ) {k : FieldKind} (e : startOf d (drop at run) ≡ Start.Field k n) (group : k ≡ FieldKind.Group) where
   pub group-depth : d < 4
-  group-depth = ltb-true d 4 (ap (λ (i : FieldKind). depthAllowed i d) (sym group) ∙ stands d (drop at run) k n e .deep)
+  group-depth = ltb-true d 4 (ap (λ (i : FieldKind). depthAllowed i d) (sym group) ∙ whole-field d (drop at run) k n e .deep)
 
   pub group-field : (o : ℕ) → afterInside (checkedOf (runOf (d + 1) (o + at + 3) (contentAt at n run))) (at + 3 + n) ≡ fieldOf d o at run
   group-field o =

@@ -15,7 +15,7 @@ use Rattle.fields.specs.declared.FieldKind.{FieldKind}
 use Rattle.fields.specs.declared.Start.{Start}
 use Rattle.fields.specs.Start.{startOf}
 use Rattle.fields.specs.Run.{Field, Scan, Fields, Refused, _andThen_, inside, step, scan, runOf, sheetLimit, sheetOf}
-use Rattle.fields.specs.Laws.{run-step, stands, end-empty}
+use Rattle.fields.specs.Laws.{run-step, whole-field, end-empty}
 use Rattle.fields.specs.AndThenLemmas.{nothing-first, nothing-after, regroup}
 use Rattle.walk.specs.declared.Position.{Position}
 use Rattle.walk.specs.declared.Walk.{Walk}
@@ -154,7 +154,7 @@ module _ (s : List ℕ) (w : Position) (d e : ℕ) (after : ℕ → Scan)
         follows FieldKind.Note g = nothing-first _ ∙ sym (past (w .place + 3 + n) (omega arith))
         follows FieldKind.Group g =
             level-inside s d e after (w .place) n
-            ∙ sym (into (ltb-true d 4 (stands d (drop (w .place) (take e s)) FieldKind.Group n g .deep)) (w .place + 3) (w .place + 3 + n) (omega arith))
+            ∙ sym (into (ltb-true d 4 (whole-field d (drop (w .place) (take e s)) FieldKind.Group n g .deep)) (w .place + 3) (w .place + 3 + n) (omega arith))
 
 -- What is left of a walk is what its step gives, then what is left after that.
 pub step-rest : (s : List ℕ) (w : Walk) → restOf s w ≡ told s (stepOf s w .given) (stepOf s w .next)

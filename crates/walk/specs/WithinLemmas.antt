@@ -12,7 +12,7 @@ use lib.Seq.{take-all, take-add, take-take, drop-at, drop-drop, length-take-le}
 use Rattle.fields.specs.declared.FieldKind.{FieldKind}
 use Rattle.fields.specs.declared.Start.{Start}
 use Rattle.fields.specs.Start.{startOf}
-use Rattle.fields.specs.Laws.{stands}
+use Rattle.fields.specs.Laws.{whole-field}
 
 -- no part is longer than the sheet
 pub take-min : (e : ℕ) (s : List ℕ) → take (min e (length s)) s ≡ take e s
@@ -40,7 +40,7 @@ pub record Within (s : List ℕ) (p e n : ℕ) : Type 0 where
 
 pub within : (d p e : ℕ) (s : List ℕ) (k : FieldKind) (n : ℕ) → startOf d (drop p (take e s)) ≡ Start.Field k n → Within s p e n
 within d p e s k n h =
-    let room : 3 + n ≤ length (drop p (take e s)) = stands d (drop p (take e s)) k n h .room in
+    let room : 3 + n ≤ length (drop p (take e s)) = whole-field d (drop p (take e s)) k n h .room in
     let left : length (drop p (take e s)) ≡ length (take e s) - p = length-drop p (take e s) in
     let part : length (take e s) ≡ min e (length s) = length-take e s in
     let inPart : p + 3 ≤ length (take e s) = omega arith in
