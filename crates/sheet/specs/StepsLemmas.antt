@@ -2,8 +2,7 @@
 -- Assumes nothing.
 use mathlib.Core.Path.{_≡_, refl, sym, ap, ap₂, _∙_}
 use mathlib.Core.List.{List, [], _∷_}
-use Prim.Native.Nat.{ℕ, _+_, _-_, _≤_, _<_}
-use native.Mathlib.Numerals.{add-one}
+use Prim.Native.Nat.{ℕ, suc, _+_, _-_, _≤_, _<_}
 use native.Mathlib.Omega.{arith}
 use lib.ListN.{length, take, drop, length-drop}
 use lib.Seq.{drop-drop, length-take-le}
@@ -108,9 +107,9 @@ module _ (d at n : ℕ) (run : List ℕ) {k : FieldKind} (e : startOf d (drop at
   pub group-depth : d < 4
   group-depth = ltb-true d 4 (ap (λ (i : FieldKind). depthAllowed i d) (sym group) ∙ whole-field d (drop at run) k n e .deep)
 
-  pub group-field : (o : ℕ) → afterInside (checkedOf (runOf (d + 1) (o + at + 3) (contentAt at n run))) (at + 3 + n) ≡ fieldOf d o at run
-  group-field o =
-      ap (λ (i : Checked). afterInside i (at + 3 + n)) (ap₂ (λ (e : ℕ) (bs : List ℕ). checkedOf (runOf e (o + at + 3) bs)) (add-one d) bytes)
+  pub group-field : (o deeper : ℕ) → deeper ≡ suc d → afterInside (checkedOf (runOf deeper (o + at + 3) (contentAt at n run))) (at + 3 + n) ≡ fieldOf d o at run
+  group-field o deeper one =
+      ap (λ (i : Checked). afterInside i (at + 3 + n)) (ap₂ (λ (e : ℕ) (bs : List ℕ). checkedOf (runOf e (o + at + 3) bs)) one bytes)
       ∙ kind-at d o at run FieldKind.Group e group
     where
       size : at + 3 + n - (at + 3) ≡ n

@@ -2,7 +2,7 @@
 -- a group's content is shorter by the three bytes of its header. The loop's invariant: from the place on the check says what it says of the whole run.
 -- Assumes nothing.
 use mathlib.Core.Path.{_≡_, sym, ap, _∙_}
-use Prim.Native.Nat.{ℕ, _+_, _-_, _*_, _<_, _≤_}
+use Prim.Native.Nat.{ℕ, suc, _+_, _-_, _*_, _<_, _≤_}
 use native.Mathlib.Omega.{arith}
 use lib.ListN.{length, drop}
 use Rattle.fields.specs.declared.FieldKind.{FieldKind}
@@ -53,17 +53,17 @@ abbrev run-claims : ℕ → check-run-lts.Claims
 run-claims t = (field-below t, check-field.Post)
 
 abbrev Inv-loop : check-run-lts.InvT-loop
-Inv-loop run offset depth at₀ at = (at ≤ length run) × (restOf depth offset run at ≡ checkedOf (runOf depth offset run))
+Inv-loop run offset depths at₀ at = (at ≤ length run) × (restOf (4 - depths) offset run at ≡ checkedOf (runOf (4 - depths) offset run))
 
 abbrev μ-loop : check-run-lts.MeasureT-loop
-μ-loop run offset depth at₀ at = length run - at
+μ-loop run offset depths at₀ at = length run - at
 
 module _ (t : ℕ) where
   -- ---- check_field
 
   -- where a field was found, its start stands at the place
   start : (c : check-field-lts.After-known-told2 (field-claims t) (field-given t) check-field.Post)
-      → startOf (c .before .before .before .before .before .args .depth) (drop (c .before .before .before .before .before .args .at) (c .before .before .before .before .before .args .run .now))
+      → startOf (4 - c .before .before .before .before .before .args .depths) (drop (c .before .before .before .before .before .args .at) (c .before .before .before .before .before .args .run .now))
       ≡ Start.Field (c .before .kind .given .0 .0) (c .before .kind .given .0 .1 .0)
   start c = sym (c .before .before .before .start-at .ensures) ∙ c .before .kind .given .1
 
@@ -73,6 +73,9 @@ module _ (t : ℕ) where
 
   field-add-place : check-field-lts.Need-add-place (field-claims t) (field-given t) check-field.Post
   field-add-place c = search needs
+
+  field-sub-start-at : check-field-lts.Need-sub-start-at (field-claims t) (field-given t) check-field.Post
+  field-sub-start-at c = search needs
 
   field-start-at-requires : check-field-lts.Need-start-at-requires (field-claims t) (field-given t) check-field.Post
   field-start-at-requires c κs = search needs
@@ -116,10 +119,10 @@ module _ (t : ℕ) where
   field-add-check-run : check-field-lts.Need-add-check-run (field-claims t) (field-given t) check-field.Post
   field-add-check-run c = let end = found (c .before .before .before) .end in omega arith
 
-  field-add-check-run-2 : check-field-lts.Need-add-check-run-2 (field-claims t) (field-given t) check-field.Post
-  field-add-check-run-2 c =
+  field-sub-check-run-2 : check-field-lts.Need-sub-check-run-2 (field-claims t) (field-given t) check-field.Post
+  field-sub-check-run-2 c =
       let a = c .before .before .before .before .before .before .before .before .args in
-      let deep : a .depth < 4 = group-depth (a .depth) (a .at) _ (a .run .now) (start (c .before .before .before)) (c .before .enum-told5 .given .1) in
+      let deep : (4 - a .depths) < 4 = group-depth (4 - a .depths) (a .at) _ (a .run .now) (start (c .before .before .before)) (c .before .enum-told5 .given .1) in
       omega arith
 
   field-check-run-requires : check-field-lts.Need-check-run-requires (field-claims t) (field-given t) check-field.Post
@@ -134,42 +137,46 @@ module _ (t : ℕ) where
   field-returns : check-field-lts.Need-returns (field-claims t) (field-given t) check-field.Post
   field-returns c =
       let a = c .before .before .before .before .args in
-      field-at (a .depth) (a .offset) (a .at) (a .run .now) Start.End (sym (c .before .before .start-at .ensures) ∙ c .enum-told .given .1)
+      field-at (4 - a .depths) (a .offset) (a .at) (a .run .now) Start.End (sym (c .before .before .start-at .ensures) ∙ c .enum-told .given .1)
 
   field-returns-2 : check-field-lts.Need-returns-2 (field-claims t) (field-given t) check-field.Post
   field-returns-2 c =
       let a = c .before .before .before .before .before .args in
-      field-at (a .depth) (a .offset) (a .at) (a .run .now) (Start.Refused (c .before .refusal .given .0 .0)) (sym (c .before .before .before .start-at .ensures) ∙ c .before .refusal .given .1)
+      field-at (4 - a .depths) (a .offset) (a .at) (a .run .now) (Start.Refused (c .before .refusal .given .0 .0)) (sym (c .before .before .before .start-at .ensures) ∙ c .before .refusal .given .1)
 
   field-returns-3 : check-field-lts.Need-returns-3 (field-claims t) (field-given t) check-field.Post
   field-returns-3 c =
       let a = c .before .before .before .before .before .before .before .args in
-      kind-at (a .depth) (a .offset) (a .at) (a .run .now) FieldKind.Word (start (c .before .before)) (c .enum-told2 .given .1)
+      kind-at (4 - a .depths) (a .offset) (a .at) (a .run .now) FieldKind.Word (start (c .before .before)) (c .enum-told2 .given .1)
 
   field-returns-4 : check-field-lts.Need-returns-4 (field-claims t) (field-given t) check-field.Post
   field-returns-4 c =
       let a = c .before .before .before .before .before .before .before .args in
-      kind-at (a .depth) (a .offset) (a .at) (a .run .now) FieldKind.Figure (start (c .before .before)) (c .enum-told3 .given .1)
+      kind-at (4 - a .depths) (a .offset) (a .at) (a .run .now) FieldKind.Figure (start (c .before .before)) (c .enum-told3 .given .1)
 
   field-returns-5 : check-field-lts.Need-returns-5 (field-claims t) (field-given t) check-field.Post
   field-returns-5 c =
       let a = c .before .before .before .before .before .before .before .args in
-      kind-at (a .depth) (a .offset) (a .at) (a .run .now) FieldKind.Note (start (c .before .before)) (c .enum-told4 .given .1)
+      kind-at (4 - a .depths) (a .offset) (a .at) (a .run .now) FieldKind.Note (start (c .before .before)) (c .enum-told4 .given .1)
 
   field-returns-6 : check-field-lts.Need-returns-6 (field-claims t) (field-given t) check-field.Post
   field-returns-6 c =
       let a = c .before .before .before .before .before .before .before .before .before .before .args in
       let n = c .before .before .before .before .before .before .kind .given .0 .1 .0 in
+      let found = start (c .before .before .before .before .before) in
+      let group = c .before .before .before .enum-told5 .given .1 in
+      let deep : 4 - a .depths < 4 = group-depth (4 - a .depths) (a .at) n (a .run .now) found group in
+      let deeper : 4 - (a .depths - 1) ≡ suc (4 - a .depths) = omega (arith, deep) in
       c .after-inside .ensures
       ∙ ap (λ (i : Checked). afterInside i (a .at + 3 + n)) (c .before .check-run .ensures)
-      ∙ group-field (a .depth) (a .at) n (a .run .now) (start (c .before .before .before .before .before)) (c .before .before .before .enum-told5 .given .1) (a .offset)
+      ∙ group-field (4 - a .depths) (a .at) n (a .run .now) found group (a .offset) (4 - (a .depths - 1)) deeper
 
   -- ---- check_run
 
   run-loop-holds : check-run-lts.Need-loop-holds (run-claims t) (run-given t) check-run.Post Inv-loop μ-loop
   run-loop-holds c =
       let a = c .before .args in
-      (omega arith, rest-all (a .depth) (a .offset) (a .run .now))
+      (omega arith, rest-all (4 - a .depths) (a .offset) (a .run .now))
 
   run-check-field-requires : check-run-lts.Need-check-field-requires (run-claims t) (run-given t) check-run.Post Inv-loop μ-loop
   run-check-field-requires c κs = search needs
@@ -180,7 +187,7 @@ module _ (t : ℕ) where
   run-returns : check-run-lts.Need-returns (run-claims t) (run-given t) check-run.Post Inv-loop μ-loop
   run-returns c =
       let a = c .before .before .before .before .before .args in
-      turn (a .depth) (a .offset) (c .before .before .before .loop .at) (a .run .now) _ FieldChecked.End (c .before .before .before .loop .inv .1) (sym (c .before .before .check-field .ensures) ∙ c .enum-told .given .1)
+      turn (4 - a .depths) (a .offset) (c .before .before .before .loop .at) (a .run .now) _ FieldChecked.End (c .before .before .before .loop .inv .1) (sym (c .before .before .check-field .ensures) ∙ c .enum-told .given .1)
 
   run-enum-known-refusal : check-run-lts.Need-enum-known-refusal (run-claims t) (run-given t) check-run.Post Inv-loop μ-loop
   run-enum-known-refusal c = search needs
@@ -188,7 +195,7 @@ module _ (t : ℕ) where
   run-returns-2 : check-run-lts.Need-returns-2 (run-claims t) (run-given t) check-run.Post Inv-loop μ-loop
   run-returns-2 c =
       let a = c .before .before .before .before .before .before .args in
-      turn (a .depth) (a .offset) (c .before .before .before .before .loop .at) (a .run .now) _ (FieldChecked.Refused (c .before .refusal .given .0 .0) (c .before .refusal .given .0 .1 .0)) (c .before .before .before .before .loop .inv .1) (sym (c .before .before .before .check-field .ensures) ∙ c .before .refusal .given .1)
+      turn (4 - a .depths) (a .offset) (c .before .before .before .before .loop .at) (a .run .now) _ (FieldChecked.Refused (c .before .refusal .given .0 .0) (c .before .refusal .given .0 .1 .0)) (c .before .before .before .before .loop .inv .1) (sym (c .before .before .before .check-field .ensures) ∙ c .before .refusal .given .1)
 
   run-enum-known-next : check-run-lts.Need-enum-known-next (run-claims t) (run-given t) check-run.Post Inv-loop μ-loop
   run-enum-known-next c = search needs
@@ -196,7 +203,7 @@ module _ (t : ℕ) where
   run-loop-less : check-run-lts.Need-loop-less (run-claims t) (run-given t) check-run.Post Inv-loop μ-loop
   run-loop-less c =
       let a = c .before .before .before .before .before .before .args in
-      let inside = next-inside (a .depth) (a .offset) (c .before .before .before .before .loop .at) (a .run .now) (c .before .next .given .0 .0) (sym (c .before .before .before .check-field .ensures) ∙ c .before .next .given .1) in
+      let inside = next-inside (4 - a .depths) (a .offset) (c .before .before .before .before .loop .at) (a .run .now) (c .before .next .given .0 .0) (sym (c .before .before .before .check-field .ensures) ∙ c .before .next .given .1) in
       omega arith
 
   run-loop-again : check-run-lts.Need-loop-again (run-claims t) (run-given t) check-run.Post Inv-loop μ-loop
@@ -204,11 +211,11 @@ module _ (t : ℕ) where
       let a = c .before .before .before .before .before .before .args in
       let at = c .before .before .before .before .loop .at in
       let next = c .before .next .given .0 .0 in
-      let e : fieldOf (a .depth) (a .offset) at (a .run .now) ≡ FieldChecked.Next next = sym (c .before .before .before .check-field .ensures) ∙ c .before .next .given .1 in
-      (next-inside (a .depth) (a .offset) at (a .run .now) next e .1, turn (a .depth) (a .offset) at (a .run .now) _ (FieldChecked.Next next) (c .before .before .before .before .loop .inv .1) e)
+      let e : fieldOf (4 - a .depths) (a .offset) at (a .run .now) ≡ FieldChecked.Next next = sym (c .before .before .before .check-field .ensures) ∙ c .before .next .given .1 in
+      (next-inside (4 - a .depths) (a .offset) at (a .run .now) next e .1, turn (4 - a .depths) (a .offset) at (a .run .now) _ (FieldChecked.Next next) (c .before .before .before .before .loop .inv .1) e)
 
 pub +check-field+check-run-spec : {M : Type 1} → statement M
 +check-field+check-run-spec =
     close μ-field μ-run
-    (λ t. check-field-lts.spec (field-claims t) (field-given t) check-field.Post (field-add-place t) (field-start-at-requires t) (field-enum-told t) (field-enum-known-refusal t) (field-enum-known-kind t) (field-add-from t) (field-add-next t) (field-enum-told-2 t) (field-enum-told-3 t) (field-enum-told-4 t) (field-enum-told-5 t) (field-sub-check-run t) (field-part-check-run-start t) (field-part-check-run-end t) (field-add-check-run t) (field-add-check-run-2 t) (field-check-run-requires t) (field-after-inside-requires t) (field-returns t) (field-returns-2 t) (field-returns-3 t) (field-returns-4 t) (field-returns-5 t) (field-returns-6 t))
+    (λ t. check-field-lts.spec (field-claims t) (field-given t) check-field.Post (field-add-place t) (field-sub-start-at t) (field-start-at-requires t) (field-enum-told t) (field-enum-known-refusal t) (field-enum-known-kind t) (field-add-from t) (field-add-next t) (field-enum-told-2 t) (field-enum-told-3 t) (field-enum-told-4 t) (field-enum-told-5 t) (field-sub-check-run t) (field-part-check-run-start t) (field-part-check-run-end t) (field-add-check-run t) (field-sub-check-run-2 t) (field-check-run-requires t) (field-after-inside-requires t) (field-returns t) (field-returns-2 t) (field-returns-3 t) (field-returns-4 t) (field-returns-5 t) (field-returns-6 t))
     (λ t. check-run-lts.spec (run-claims t) (run-given t) check-run.Post Inv-loop μ-loop (run-loop-holds t) (run-check-field-requires t) (run-enum-told t) (run-returns t) (run-enum-known-refusal t) (run-returns-2 t) (run-enum-known-next t) (run-loop-less t) (run-loop-again t))
