@@ -1,4 +1,2 @@
 pub mod Lines
 pub mod Lengths
-pub mod Theorems
-mod Examples

@@ -13,7 +13,8 @@ use Rattle.contents.specs.declared.FigureIn.{FigureIn}
 use Rattle.contents.specs.Contents.{wordIn, figureIn}
 use Rattle.verdicts.specs.declared.Previous.{Previous}
 use Rattle.verdicts.specs.Verdicts.{verdictOf}
-use Rattle.lines.specs.Lines.{wordLine, verdictLine, totalLine, refusalLine}
+use Rattle.word_lines.specs.WordLines.{wordLine}
+use Rattle.lines.specs.Lines.{verdictLine, totalLine, refusalLine}
 use Rattle.totals.specs.Totals.{wordOf, wordsIn, refusedWordsIn}
 use Rattle.listing.specs.declared.Before.{Before}
 use Rattle.listing.specs.declared.Listed.{Listed}

@@ -25,7 +25,8 @@ use Rattle.contents.specs.Contents.{wordIn, figureIn}
 use Rattle.verdicts.specs.declared.Previous.{Previous}
 use Rattle.verdicts.specs.Verdicts.{verdictOf}
 use Rattle.lines.specs.Lines.{totalLine}
-use Rattle.lines.specs.Lengths.{word-line-length, verdict-line-length, total-line-length, refusal-line-length}
+use Rattle.word_lines.specs.Lengths.{word-line-length}
+use Rattle.lines.specs.Lengths.{verdict-line-length, total-line-length, refusal-line-length}
 use Rattle.totals.specs.Totals.{isWord, wordsIn, refusedWordsIn, refused-few}
 use Rattle.listing.specs.declared.Before.{Before}
 use Rattle.listing.specs.Listing.{previous, after, lineOfWord, lineOfFigure, lineOf, linesOf, listingOf, textOf}

@@ -19,7 +19,8 @@ use Rattle.contents.specs.Contents.{wordIn, figureIn}
 use Rattle.text.specs.Writing.{last, Writes, named, empty}
 use Rattle.verdicts.specs.declared.Previous.{Previous}
 use Rattle.verdicts.specs.Verdicts.{verdictOf}
-use Rattle.lines.specs.Lines.{decodedLine, verdictLine}
+use Rattle.word_lines.specs.WordLines.{decodedLine}
+use Rattle.lines.specs.Lines.{verdictLine}
 use Rattle.totals.specs.Totals.{refusedOne, refusedWord, isWord, isRefusedWord}
 use Rattle.listing.specs.declared.Before.{Before}
 use Rattle.listing.specs.declared.Progress.{Progress}

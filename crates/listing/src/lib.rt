@@ -55,7 +55,12 @@ fn put_word(out: &mut [u8], progress: Progress, depth: u8, content: &[u8]) -> Pr
         WordIn::Word(word) => {
             let decoded = decode::decode(word);
             let refused = progress.refused + totals::refused_one(decoded);
-            let at = lines::put_decoded_line(out, progress.at, labels::label_of(word), decoded);
+            let at = word_lines::put_decoded_line(
+                out,
+                progress.at,
+                labels::label_of(word),
+                decoded,
+            );
             Progress {
                 at,
                 before: Before::Word(depth, word),

@@ -31,6 +31,7 @@ use Rattle.columns.specs.Columns.{columnsOf}
 use Rattle.text.specs.Ascii.{ascii}
 use Rattle.numerals.specs.Digits.{decimal, padded, octal3, fixed, sign}
 use Rattle.numerals.specs.Theorems.{Digits, decimal-digits, padded-digits}
+use Rattle.word_lines.specs.WordLines as words
 use Rattle.lines.specs.Lines as lines
 use Rattle.totals.specs.Totals.{isWord, wordsIn, refusedWordsIn}
 use Rattle.listing.specs.declared.Before.{Before}
@@ -92,38 +93,38 @@ sign-none : (b : Bool) → lineEnds (sign b) ≡ 0
 sign-none true = refl
 sign-none false = refl
 
-figure-none : (f : Figure) → lineEnds (lines.figureText f) ≡ 0
+figure-none : (f : Figure) → lineEnds (words.figureText f) ≡ 0
 figure-none (Figure.Number negative places size) = none-both (sign negative) (fixed places size) (sign-none negative) (fixed-none places size)
 figure-none Figure.Absent = refl
 
-status-none : (s : Status) → lineEnds (lines.statusText s) ≡ 0
+status-none : (s : Status) → lineEnds (words.statusText s) ≡ 0
 status-none Status.Failure = refl
 status-none Status.NoData = refl
 status-none Status.Test = refl
 status-none Status.Ready = refl
 
-mark-none : (m : Mark) → lineEnds (lines.markText m) ≡ 0
+mark-none : (m : Mark) → lineEnds (words.markText m) ≡ 0
 mark-none (Mark.Status s) = status-none s
 mark-none (Mark.Part n) = none-both (ascii "part") (decimal n) refl (decimal-none n)
 
 -- ---- each line has one line end
 
-heading-none : (label source : ℕ) → lineEnds (lines.heading label source) ≡ 0
+heading-none : (label source : ℕ) → lineEnds (words.heading label source) ≡ 0
 heading-none label source =
     none-both (octal3 label ++ ascii " " ++ decimal source) (ascii " ")
     (none-both (octal3 label ++ ascii " ") (decimal source) (none-both (octal3 label) (ascii " ") (padded-none 8 3 label (lit< tt)) refl) (decimal-none source))
     refl
 
-word-one : (d : Decoded) (label : ℕ) → lineEnds (lines.decodedLine d label) ≡ 1
+word-one : (d : Decoded) (label : ℕ) → lineEnds (words.decodedLine d label) ≡ 1
 word-one (Decoded.Refused f) label =
     one-end (ascii "refused " ++ decimal (numberOf f)) (none-both (ascii "refused ") (decimal (numberOf f)) refl (decimal-none (numberOf f)))
 word-one (Decoded.Accepted r) label =
     let columns : Columns = columnsOf (r .body) in
-    let head : List ℕ = lines.heading label (r .source) in
-    one-end (lines.marked label (r .source) (columns .mark) ++ lines.figureText (columns .figure))
-    (none-both (lines.marked label (r .source) (columns .mark)) (lines.figureText (columns .figure))
-    (none-both (head ++ lines.markText (columns .mark)) (ascii " ")
-    (none-both head (lines.markText (columns .mark)) (heading-none label (r .source)) (mark-none (columns .mark))) refl)
+    let head : List ℕ = words.heading label (r .source) in
+    one-end (words.marked label (r .source) (columns .mark) ++ words.figureText (columns .figure))
+    (none-both (words.marked label (r .source) (columns .mark)) (words.figureText (columns .figure))
+    (none-both (head ++ words.markText (columns .mark)) (ascii " ")
+    (none-both head (words.markText (columns .mark)) (heading-none label (r .source)) (mark-none (columns .mark))) refl)
     (figure-none (columns .figure)))
 
 verdict-one : (v : Verdict) → lineEnds (lines.verdictLine v) ≡ 1
