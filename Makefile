@@ -1,5 +1,5 @@
 # Two commands do all the set-up: `make demo` and `make test`. Both need the Rattle kit's `rt`; the tests also need a C and C++ compiler and cargo.
-.PHONY: demo test check library programs test-c test-model test-rust test-install exhaustive bench install install-files uninstall fmt
+.PHONY: demo test check library programs test-c test-model test-rust test-programs test-install exhaustive bench install install-files uninstall fmt
 
 VERSION = 0.1.0
 PREFIX = /usr/local
@@ -8,7 +8,7 @@ PREFIX = /usr/local
 demo: programs
 	@./target/bin/list < examples/flight.sheet
 
-# The gate: the kinds of files, two wrong programs for each public function, layout of the sources; every proof from nothing, every must-fail edit and every program; then the model in Rust, the library from C, C++ and Rust beside the model, and the installation.
+# The gate: the kinds of files, two wrong programs for each public function, layout of the sources; every proof from nothing, every must-fail edit and every program; then the model in Rust, the library from C, C++ and Rust beside the model, the programs where something goes wrong, and the installation.
 # Its last line is rt ci's own count.
 test: SHELL := /bin/bash
 test:
@@ -16,14 +16,14 @@ test:
 	rt fmt --check
 	cmp examples/flight.sheet crates/test_sheets/data/flight/0000.bin
 	cmp examples/flight.txt crates/test_sheets/data/flight/0000.txt
-	@set -o pipefail; log=$$(mktemp) && rt ci 2>&1 | tee "$$log" && $(MAKE) --no-print-directory test-model test-c test-rust test-install && tail -n 1 "$$log" && rm -f "$$log"
+	@set -o pipefail; log=$$(mktemp) && rt ci 2>&1 | tee "$$log" && $(MAKE) --no-print-directory test-model test-c test-rust test-programs test-install && tail -n 1 "$$log" && rm -f "$$log"
 
 # The daily loop: what has changed is proved again, the programs and the C and Rust tests are run; no wrong program is tried.
 check:
 	tests/repository/run
 	rt fmt --check
 	rt check
-	@$(MAKE) --no-print-directory test-model test-c test-rust test-install
+	@$(MAKE) --no-print-directory test-model test-c test-rust test-programs test-install
 
 # The programs that are installed: target/bin/list.
 programs:
@@ -76,6 +76,10 @@ filled = sed -e 's|@PREFIX@|$(PREFIX)|' -e 's|@VERSION@|$(VERSION)|' $(1) > "$(D
 uninstall:
 	for file in bin/lampcygnet-list include/lampcygnet.h lib/liblampcygnet.a lib/pkgconfig/lampcygnet.pc \
 		share/man/man1/lampcygnet-list.1 share/man/man3/lampcygnet.3; do rm -f "$(DESTDIR)$(PREFIX)/$$file"; done
+
+# The programs where an input cannot be read, an output cannot be written, an argument is given or a sheet is too long.
+test-programs: programs
+	tests/programs/run
 
 # Installs to a temporary folder, and uses what is there.
 test-install: programs library
