@@ -121,7 +121,7 @@ struct lampcygnet_record lampcygnet_decode(uint32_t word);
 
 /*
  * The word of a record. Refused 2 where `kind` is not from 1 to 15, else 4 where a code of the kind or the source is outside its list, else 6
- * where another field of the kind is not legal. `refusal` and the fields that the kind has not are not looked at; the word's record has 0 there.
+ * where another field of the kind is not legal, as a flag above 1. `refusal` and the fields that the kind has not are not looked at; the word's record has 0 there.
  */
 struct lampcygnet_word lampcygnet_encode(struct lampcygnet_record fields);
 
@@ -251,7 +251,7 @@ struct lampcygnet_place {
  */
 struct lampcygnet_place lampcygnet_check_sheet(const uint8_t *sheet, size_t length);
 
-/* Where a walk over a sheet stands. A number from 1 to 15 in `refusal` is that of a refused sheet; beside any other the place and the ends count. */
+/* Where a walk over a sheet stands. 9, 10, 11, 12 or 15 in `refusal` is that of a refused sheet; beside any other number the place and the ends count. */
 struct lampcygnet_walk {
     uint8_t refusal; /* enum lampcygnet_refusal: what the sheet is refused */
     size_t place;    /* the offset of the next field's tag, or of the refused one's */

@@ -147,6 +147,31 @@ static int is_same(struct lampcygnet_record a, struct lampcygnet_record b)
         && a.word_number == b.word_number && a.count == b.count && a.value == b.value;
 }
 
+/* A flag is no code: above 1 it is 6, after 4. */
+static void test_flags(void)
+{
+    int kind;
+    for (kind = LAMPCYGNET_KIND_VOR_AZIMUTH; kind <= LAMPCYGNET_KIND_PART_4; kind++) {
+        struct lampcygnet_record r = example((uint8_t)kind);
+        const int has_inhibit = kind == LAMPCYGNET_KIND_ILS_COURSE || kind == LAMPCYGNET_KIND_ILS_GLIDE;
+        const int has_clearance = kind == LAMPCYGNET_KIND_MLS_AZIMUTH_DEVIATION || kind == LAMPCYGNET_KIND_MLS_GLIDE_DEVIATION;
+        const int has_manual = kind == LAMPCYGNET_KIND_SELECTED_AZIMUTH || kind == LAMPCYGNET_KIND_SELECTED_GLIDE_ANGLE;
+        r.inhibit = 2;
+        EXPECT(lampcygnet_encode(r).refusal == (has_inhibit || has_clearance ? LAMPCYGNET_REFUSED_VALUE : LAMPCYGNET_ACCEPTED));
+        r = example((uint8_t)kind);
+        r.clearance = 255;
+        EXPECT(lampcygnet_encode(r).refusal == (has_clearance ? LAMPCYGNET_REFUSED_VALUE : LAMPCYGNET_ACCEPTED));
+        r = example((uint8_t)kind);
+        r.manual = 2;
+        EXPECT(lampcygnet_encode(r).refusal == (has_manual ? LAMPCYGNET_REFUSED_VALUE : LAMPCYGNET_ACCEPTED));
+        r = example((uint8_t)kind);
+        r.parity_good = 2;
+        EXPECT(lampcygnet_encode(r).refusal == (kind == LAMPCYGNET_KIND_PART_4 ? LAMPCYGNET_REFUSED_VALUE : LAMPCYGNET_ACCEPTED));
+        r.source = 4;
+        EXPECT(lampcygnet_encode(r).refusal == LAMPCYGNET_REFUSED_CODE);
+    }
+}
+
 static void test_encoding(void)
 {
     struct lampcygnet_record r;
@@ -406,6 +431,7 @@ int main(int argc, char **argv)
     test_layout();
     test_decoding();
     test_encoding();
+    test_flags();
     test_readings();
     test_figures();
     test_reassembly();

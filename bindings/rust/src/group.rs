@@ -1,4 +1,5 @@
 use crate::ffi;
+use crate::refusal::flag;
 use crate::Refusal;
 
 /// The MLS auxiliary data of group C, put together: received bit j weighs 2^(j-13), j from 13 to 76.
@@ -35,11 +36,12 @@ impl Reassembler {
         let step = unsafe { ffi::lampcygnet_reassemble(self.held, word) };
         self.held = step.next;
         Refusal::unless(step.refusal, || {
-            (step.complete == 1).then_some(Group {
+            let (complete, parity_good) = (flag(step.complete)?, flag(step.parity_good)?);
+            Ok(complete.then_some(Group {
                 bits: step.bits,
-                parity_good: step.parity_good == 1,
-            })
-        })
+                parity_good,
+            }))
+        })?
     }
 
     /// How many parts are held, and of which source.

@@ -1,4 +1,5 @@
 use crate::ffi;
+use crate::refusal::flag;
 use crate::Refusal;
 use std::fmt;
 
@@ -49,24 +50,29 @@ pub struct ChartPoint {
 pub fn reading(word: u32) -> Result<Shown, Refusal> {
     // The function takes every number and writes to no memory.
     let flat = unsafe { ffi::lampcygnet_reading_of(word) };
-    Refusal::unless(flat.refusal, || {
-        let manual = flat.manual == 1;
-        let reading = match flat.unit {
-            1 => Reading::Degrees(flat.value),
-            2 => Reading::DepthDifference(flat.value),
-            3 => Reading::Nanovolts(flat.whole),
-            4 => Reading::TensOfKhz(flat.whole),
-            5 => Reading::SelectedDegrees(flat.whole, manual),
-            6 => Reading::GreatestTenths(flat.whole),
-            7 => Reading::SelectedTenths(flat.whole, manual),
-            _ => return Shown::Absent,
+    Refusal::unless(flat.refusal, || Shown::from_numbers(flat))?
+}
+
+impl Shown {
+    /// What the library's numbers stand for. A unit, a mark or a flag that it does not have is an error.
+    fn from_numbers(n: ffi::Reading) -> Result<Shown, Refusal> {
+        let shown = match n.shown {
+            0 => return Ok(Shown::Absent),
+            1 => Shown::Ready,
+            2 => Shown::Test,
+            _ => return Err(Refusal::Unknown),
         };
-        match flat.shown {
-            1 => Shown::Ready(reading),
-            2 => Shown::Test(reading),
-            _ => Shown::Absent,
-        }
-    })
+        Ok(shown(match n.unit {
+            1 => Reading::Degrees(n.value),
+            2 => Reading::DepthDifference(n.value),
+            3 => Reading::Nanovolts(n.whole),
+            4 => Reading::TensOfKhz(n.whole),
+            5 => Reading::SelectedDegrees(n.whole, flag(n.manual)?),
+            6 => Reading::GreatestTenths(n.whole),
+            7 => Reading::SelectedTenths(n.whole, flag(n.manual)?),
+            _ => return Err(Refusal::Unknown),
+        }))
+    }
 }
 
 /// The chart point of a course word (label 173) and a glide word (174). Refused by the first word's number, the second's, 2
@@ -117,6 +123,30 @@ impl fmt::Display for Shown {
             Shown::Ready(reading) => reading.fmt(f),
             Shown::Test(reading) => write!(f, "{reading} (test)"),
             Shown::Absent => f.write_str("-"),
+        }
+    }
+}
+
+#[cfg(test)]
+mod tests {
+    use super::*;
+
+    #[test]
+    fn an_unknown_number_is_an_error() {
+        let numbers = |shown, unit, manual| ffi::Reading {
+            refusal: 0,
+            shown,
+            unit,
+            manual,
+            whole: 4,
+            value: 0.5,
+        };
+        let read = |shown, unit, manual| Shown::from_numbers(numbers(shown, unit, manual));
+        assert_eq!(read(0, 0, 0), Ok(Shown::Absent));
+        assert_eq!(read(2, 1, 0), Ok(Shown::Test(Reading::Degrees(0.5))));
+        assert_eq!(read(1, 5, 1), Ok(Shown::Ready(Reading::SelectedDegrees(4, true))));
+        for (shown, unit, manual) in [(3, 1, 0), (1, 0, 0), (1, 8, 0), (1, 5, 2), (2, 7, 9)] {
+            assert_eq!(read(shown, unit, manual), Err(Refusal::Unknown));
         }
     }
 }

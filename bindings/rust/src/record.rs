@@ -1,5 +1,6 @@
 use crate::ffi;
 use crate::figure::print_count;
+use crate::refusal::flag;
 use crate::Refusal;
 use std::fmt;
 
@@ -124,7 +125,7 @@ pub struct Record {
 pub fn decode(word: u32) -> Result<Record, Refusal> {
     // The function takes every number and writes to no memory.
     let flat = unsafe { ffi::lampcygnet_decode(word) };
-    Refusal::unless(flat.refusal, || Record::from_numbers(flat))
+    Refusal::unless(flat.refusal, || Record::from_numbers(flat))?
 }
 
 impl Record {
@@ -194,65 +195,84 @@ impl Record {
         }
     }
 
-    fn from_numbers(n: ffi::Record) -> Record {
-        let status = match n.status {
-            1 => Status::Failure,
-            2 => Status::NoData,
-            3 => Status::Test,
-            _ => Status::Ready,
+    /// The record that the library's numbers stand for. A kind, a code or a flag that it does not have is an error.
+    fn from_numbers(n: ffi::Record) -> Result<Record, Refusal> {
+        let status = || match n.status {
+            1 => Ok(Status::Failure),
+            2 => Ok(Status::NoData),
+            3 => Ok(Status::Test),
+            4 => Ok(Status::Ready),
+            _ => Err(Refusal::Unknown),
         };
-        let marker = match n.marker {
-            1 => Marker::Outer,
-            2 => Marker::Middle,
-            4 => Marker::Inner,
-            _ => Marker::None,
+        let marker = || match n.marker {
+            0 => Ok(Marker::None),
+            1 => Ok(Marker::Outer),
+            2 => Ok(Marker::Middle),
+            4 => Ok(Marker::Inner),
+            _ => Err(Refusal::Unknown),
         };
-        let category = match n.category {
-            1 => Category::One,
-            2 => Category::Two,
-            3 => Category::Three,
-            _ => Category::NotStated,
+        let category = || match n.category {
+            0 => Ok(Category::NotStated),
+            1 => Ok(Category::One),
+            2 => Ok(Category::Two),
+            3 => Ok(Category::Three),
+            _ => Err(Refusal::Unknown),
         };
-        let (inhibit, clearance, manual) = (n.inhibit == 1, n.clearance == 1, n.manual == 1);
+        let (inhibit, clearance, manual) = (|| flag(n.inhibit), || flag(n.clearance), || flag(n.manual));
         let (count, value) = (n.count, n.value);
         let body = match n.kind {
-            1 => Body::VorAzimuth { status, marker, count },
+            1 => Body::VorAzimuth {
+                status: status()?,
+                marker: marker()?,
+                count,
+            },
             2 => Body::VorFrequency {
-                status,
+                status: status()?,
                 frequency: value,
             },
-            3 => Body::IlsCourse { status, inhibit, count },
-            4 => Body::IlsGlide { status, inhibit, count },
+            3 => Body::IlsCourse {
+                status: status()?,
+                inhibit: inhibit()?,
+                count,
+            },
+            4 => Body::IlsGlide {
+                status: status()?,
+                inhibit: inhibit()?,
+                count,
+            },
             5 => Body::IlsFrequency {
-                status,
-                category,
+                status: status()?,
+                category: category()?,
                 frequency: value,
             },
             6 => Body::MlsFrequency {
-                status,
+                status: status()?,
                 frequency: value,
             },
             7 => Body::MlsAzimuthDeviation {
-                status,
-                inhibit,
-                clearance,
+                status: status()?,
+                inhibit: inhibit()?,
+                clearance: clearance()?,
                 count,
             },
             8 => Body::MlsGlideDeviation {
-                status,
-                inhibit,
-                clearance,
+                status: status()?,
+                inhibit: inhibit()?,
+                clearance: clearance()?,
                 count,
             },
             9 => Body::SelectedAzimuth {
-                status,
-                manual,
+                status: status()?,
+                manual: manual()?,
                 degrees: value,
             },
-            10 => Body::GreatestGlideAngle { status, tenths: value },
+            10 => Body::GreatestGlideAngle {
+                status: status()?,
+                tenths: value,
+            },
             11 => Body::SelectedGlideAngle {
-                status,
-                manual,
+                status: status()?,
+                manual: manual()?,
                 tenths: value,
             },
             12 => Body::Part1 {
@@ -261,12 +281,13 @@ impl Record {
             },
             13 => Body::Part2 { content: value },
             14 => Body::Part3 { content: value },
-            _ => Body::Part4 {
-                parity_good: n.parity_good == 1,
+            15 => Body::Part4 {
+                parity_good: flag(n.parity_good)?,
                 content: value,
             },
+            _ => return Err(Refusal::Unknown),
         };
-        Record { source: n.source, body }
+        Ok(Record { source: n.source, body })
     }
 
     fn to_numbers(self) -> ffi::Record {
@@ -388,5 +409,40 @@ impl fmt::Display for Record {
             Some(status) => write!(f, "{status} {}", Fixed { units, places }),
             None => Ok(()),
         }
+    }
+}
+
+#[cfg(test)]
+mod tests {
+    use super::*;
+
+    /// One number changed in the numbers of a record is refused where the record has no such number.
+    fn refused(kind: u8, change: impl Fn(&mut ffi::Record)) {
+        let mut numbers = ffi::Record {
+            kind,
+            status: 4,
+            ..ffi::Record::default()
+        };
+        assert!(Record::from_numbers(numbers).is_ok());
+        change(&mut numbers);
+        assert_eq!(Record::from_numbers(numbers), Err(Refusal::Unknown));
+    }
+
+    #[test]
+    fn an_unknown_number_is_an_error() {
+        for kind in 1..=15 {
+            refused(kind, |n| n.kind = 0);
+            refused(kind, |n| n.kind += 15);
+        }
+        for kind in 1..=11 {
+            refused(kind, |n| n.status = 0);
+            refused(kind, |n| n.status = 5);
+        }
+        refused(1, |n| n.marker = 3);
+        refused(5, |n| n.category = 4);
+        refused(3, |n| n.inhibit = 2);
+        refused(8, |n| n.clearance = 2);
+        refused(9, |n| n.manual = 2);
+        refused(15, |n| n.parity_good = 2);
     }
 }

@@ -35,6 +35,9 @@ pub enum Refusal {
     Sequence = 14,
     /// A sheet above 32,768 bytes.
     Oversize = 15,
+    /// No refusal of document 01: the linked library answered with numbers that this crate does not know, as one of
+    /// another version may.
+    Unknown = 255,
 }
 
 impl Refusal {
@@ -57,21 +60,21 @@ impl Refusal {
         Refusal::Oversize,
     ];
 
-    /// Document 01's number of this refusal, 1 to 15.
+    /// Document 01's number of this refusal, 1 to 15; 255 for [`Refusal::Unknown`].
     pub fn number(self) -> u8 {
         self as u8
     }
 
-    /// The refusal with this number.
+    /// The refusal with this number of document 01.
     pub fn from_number(number: u8) -> Option<Refusal> {
         Self::ALL.get(usize::from(number).wrapping_sub(1)).copied()
     }
 
-    /// The value, unless the number beside it is that of a refusal.
+    /// The value where the number beside it is 0; every other number is an error.
     pub(crate) fn unless<T>(number: u8, value: impl FnOnce() -> T) -> Result<T, Refusal> {
-        match Refusal::from_number(number) {
-            Some(refusal) => Err(refusal),
-            None => Ok(value()),
+        match number {
+            0 => Ok(value()),
+            number => Err(Refusal::from_number(number).unwrap_or(Refusal::Unknown)),
         }
     }
 }
@@ -94,9 +97,41 @@ impl fmt::Display for Refusal {
             Refusal::Room => "no room in the buffer",
             Refusal::Sequence => "a part is out of sequence",
             Refusal::Oversize => "the sheet is longer than 32,768 bytes",
+            Refusal::Unknown => "the library answered with numbers that are not known here",
         };
         write!(f, "refused {}: {text}", self.number())
     }
 }
 
 impl Error for Refusal {}
+
+/// A flag of the library's: 0 or 1.
+pub(crate) fn flag(number: u8) -> Result<bool, Refusal> {
+    match number {
+        0 => Ok(false),
+        1 => Ok(true),
+        _ => Err(Refusal::Unknown),
+    }
+}
+
+#[cfg(test)]
+mod tests {
+    use super::*;
+
+    #[test]
+    fn every_number_but_0_is_an_error() {
+        assert_eq!(Refusal::unless(0, || 7), Ok(7));
+        for number in 1..=u8::MAX {
+            let refusal = Refusal::from_number(number).unwrap_or(Refusal::Unknown);
+            assert_eq!(Refusal::unless(number, || 7), Err(refusal));
+            assert_eq!(refusal == Refusal::Unknown, 15 < number);
+            assert!(15 < number || refusal.number() == number);
+        }
+    }
+
+    #[test]
+    fn a_flag_is_0_or_1() {
+        assert_eq!((flag(0), flag(1)), (Ok(false), Ok(true)));
+        assert!((2..=u8::MAX).all(|number| flag(number) == Err(Refusal::Unknown)));
+    }
+}

@@ -66,9 +66,10 @@ fn any_numbers(random: &mut Random) -> ffi::Record {
     numbers
 }
 
-/// The model's answer to any numbers: 2 for no kind, 4 for a code outside its list, else that of the record.
+/// The model's answer to any numbers: 2 for no kind, 4 for a code outside its list, 6 for a flag above 1, else that of the
+/// record.
 fn encode_numbers(n: &ffi::Record) -> Result<u32, u8> {
-    let flag = |number: u8| (number < 2).then_some(number == 1).ok_or(4);
+    let flag = |number: u8| number == 1;
     let status = || n.status.checked_sub(1).filter(|status| *status < 4).ok_or(4);
     let marker = || match n.marker {
         4 => Ok(3),
@@ -88,12 +89,12 @@ fn encode_numbers(n: &ffi::Record) -> Result<u32, u8> {
         },
         3 => Body::IlsCourse {
             status: status()?,
-            inhibit: flag(n.inhibit)?,
+            inhibit: flag(n.inhibit),
             count,
         },
         4 => Body::IlsGlide {
             status: status()?,
-            inhibit: flag(n.inhibit)?,
+            inhibit: flag(n.inhibit),
             count,
         },
         5 => Body::IlsFrequency {
@@ -106,7 +107,7 @@ fn encode_numbers(n: &ffi::Record) -> Result<u32, u8> {
             frequency: value,
         },
         7 | 8 => {
-            let (status, inhibit, clearance) = (status()?, flag(n.inhibit)?, flag(n.clearance)?);
+            let (status, inhibit, clearance) = (status()?, flag(n.inhibit), flag(n.clearance));
             match n.kind {
                 7 => Body::MlsAzimuth {
                     status,
@@ -124,7 +125,7 @@ fn encode_numbers(n: &ffi::Record) -> Result<u32, u8> {
         }
         9 => Body::SelectedAzimuth {
             status: status()?,
-            manual: flag(n.manual)?,
+            manual: flag(n.manual),
             degrees: value,
         },
         10 => Body::GreatestGlide {
@@ -133,7 +134,7 @@ fn encode_numbers(n: &ffi::Record) -> Result<u32, u8> {
         },
         11 => Body::SelectedGlide {
             status: status()?,
-            manual: flag(n.manual)?,
+            manual: flag(n.manual),
             tenths: value,
         },
         12 => Body::Part1 {
@@ -143,12 +144,23 @@ fn encode_numbers(n: &ffi::Record) -> Result<u32, u8> {
         13 => Body::Part2 { content: value },
         14 => Body::Part3 { content: value },
         15 => Body::Part4 {
-            parity: flag(n.parity_good)?,
+            parity: flag(n.parity_good),
             content: value,
         },
         _ => return Err(2),
     };
-    model::encode(&Record { source: n.source, body })
+    let flags: &[u8] = match n.kind {
+        3 | 4 => &[n.inhibit],
+        7 | 8 => &[n.inhibit, n.clearance],
+        9 | 11 => &[n.manual],
+        15 => &[n.parity_good],
+        _ => &[],
+    };
+    match model::encode(&Record { source: n.source, body }) {
+        Err(4) => Err(4),
+        _ if flags.iter().any(|flag| 1 < *flag) => Err(6),
+        answer => answer,
+    }
 }
 
 #[test]
@@ -315,7 +327,11 @@ impl Surrounded {
 
 fn any_walk(random: &mut Random, length: usize) -> ffi::Walk {
     ffi::Walk {
-        refusal: if random.once_in(8) { random.draw() as u8 } else { 0 },
+        refusal: match random.below(8) {
+            0 => random.draw() as u8,
+            1 => random.below(17) as u8,
+            _ => 0,
+        },
         place: size(random, length),
         end1: size(random, length),
         end2: size(random, length),
@@ -335,7 +351,7 @@ const NO_FIELD: ffi::Field = ffi::Field {
 fn stops(walk: ffi::Walk, step: ffi::Walked) {
     let (refusal, place) = (step.field.refusal, step.field.place);
     match walk.refusal {
-        1..=15 => assert_eq!((refusal, place), (walk.refusal, walk.place)),
+        9..=12 | 15 => assert_eq!((refusal, place), (walk.refusal, walk.place)),
         _ if refusal == 0 => assert_eq!(place, 0),
         _ => assert!((9..=12).contains(&refusal) && place == walk.place, "{step:?}"),
     }

@@ -1,7 +1,7 @@
--- The record that numbers stand for, or their refusal: 2 for no kind, 4 for a code or a source outside its list, 6 for a value that the record
--- cannot hold. What the kind has no field for is not looked at.
+-- The record that numbers stand for, or their refusal: 2 for no kind, 4 for a code or a source outside its list, 6 for a flag above 1 or a value
+-- that the record cannot hold. What the kind has no field for is not looked at.
 -- Assumes nothing.
-use mathlib.Core.Path.{_≡_}
+use mathlib.Core.Path.{_≡_, refl}
 use mathlib.Core.Bool.{Bool, true, false, cond, _&&_}
 use mathlib.Core.List.{List, [], _∷_}
 use Prim.Native.Nat.{ℕ, _+_, _%_}
@@ -12,7 +12,7 @@ use Rattle.records.specs.declared.Kind.{Kind}
 use Rattle.records.specs.declared.Record.{Record}
 use Rattle.refusals.specs.declared.Refusal.{Refusal}
 use Rattle.codes.specs.declared.Status.{Status}
-use Rattle.records.specs.All.{kinds}
+use Rattle.records.specs.All.{kinds, agree}
 use Rattle.labels.specs.declared.Lookup.{Lookup}
 use Rattle.decode.specs.declared.Decoded.{Decoded}
 use Rattle.flat_fields.specs.declared.Fields.{Fields}
@@ -31,50 +31,57 @@ kindIn (k ∷ ks) place n = cond (eqb n place) (Lookup.Known k) (kindIn ks (plac
 abbrev pub kindAt : ℕ → Lookup
 kindAt n = kindIn kinds 1 n
 
--- a status, a flag
+-- the number of a status
 abbrev pub statusListed : ℕ → Bool
 statusListed n = leb 1 n && leb n 4
 
-abbrev pub flagListed : ℕ → Bool
-flagListed n = leb n 1
+-- what a flag, 8 bits and 16 bits can be
+abbrev pub isFlag : ℕ → Bool
+isFlag n = leb n 1
+
+abbrev pub isOctet : ℕ → Bool
+isOctet n = leb n 255
+
+abbrev pub isShort : ℕ → Bool
+isShort n = leb n 65535
 
 -- every code that the kind has is in its list
 abbrev pub listed : Kind → FlatRecord → Bool
 listed Kind.VorAzimuth f = statusListed (f .status) && markerListed (f .marker)
 listed Kind.VorFrequency f = statusListed (f .status)
-listed Kind.IlsCourse f = statusListed (f .status) && flagListed (f .inhibit)
-listed Kind.IlsGlide f = statusListed (f .status) && flagListed (f .inhibit)
+listed Kind.IlsCourse f = statusListed (f .status)
+listed Kind.IlsGlide f = statusListed (f .status)
 listed Kind.IlsFrequency f = statusListed (f .status) && leb (f .category) 3
 listed Kind.MlsFrequency f = statusListed (f .status)
-listed Kind.MlsAzimuthDeviation f = statusListed (f .status) && (flagListed (f .inhibit) && flagListed (f .clearance))
-listed Kind.MlsGlideDeviation f = statusListed (f .status) && (flagListed (f .inhibit) && flagListed (f .clearance))
-listed Kind.SelectedAzimuth f = statusListed (f .status) && flagListed (f .manual)
+listed Kind.MlsAzimuthDeviation f = statusListed (f .status)
+listed Kind.MlsGlideDeviation f = statusListed (f .status)
+listed Kind.SelectedAzimuth f = statusListed (f .status)
 listed Kind.GreatestGlideAngle f = statusListed (f .status)
-listed Kind.SelectedGlideAngle f = statusListed (f .status) && flagListed (f .manual)
+listed Kind.SelectedGlideAngle f = statusListed (f .status)
 listed Kind.Part1 f = true
 listed Kind.Part2 f = true
 listed Kind.Part3 f = true
-listed Kind.Part4 f = flagListed (f .«parity_good»)
+listed Kind.Part4 f = true
 
--- the greatest value that the record of a kind can hold; one with a count has no value, and any number is taken
-abbrev pub most : Kind → ℕ
-most Kind.VorAzimuth = 4294967295
-most Kind.VorFrequency = 4294967295
-most Kind.IlsCourse = 4294967295
-most Kind.IlsGlide = 4294967295
-most Kind.IlsFrequency = 4294967295
-most Kind.MlsFrequency = 4294967295
-most Kind.MlsAzimuthDeviation = 4294967295
-most Kind.MlsGlideDeviation = 4294967295
-most Kind.SelectedAzimuth = 65535
-most Kind.GreatestGlideAngle = 65535
-most Kind.SelectedGlideAngle = 65535
-most Kind.Part1 = 255
-most Kind.Part2 = 65535
-most Kind.Part3 = 65535
-most Kind.Part4 = 65535
+-- every other field that the kind has is one that its record can hold
+abbrev pub fits : Kind → FlatRecord → Bool
+fits Kind.VorAzimuth f = true
+fits Kind.VorFrequency f = true
+fits Kind.IlsCourse f = isFlag (f .inhibit)
+fits Kind.IlsGlide f = isFlag (f .inhibit)
+fits Kind.IlsFrequency f = true
+fits Kind.MlsFrequency f = true
+fits Kind.MlsAzimuthDeviation f = isFlag (f .inhibit) && isFlag (f .clearance)
+fits Kind.MlsGlideDeviation f = isFlag (f .inhibit) && isFlag (f .clearance)
+fits Kind.SelectedAzimuth f = isFlag (f .manual) && isShort (f .value)
+fits Kind.GreatestGlideAngle f = isShort (f .value)
+fits Kind.SelectedGlideAngle f = isFlag (f .manual) && isShort (f .value)
+fits Kind.Part1 f = isOctet (f .value)
+fits Kind.Part2 f = isShort (f .value)
+fits Kind.Part3 f = isShort (f .value)
+fits Kind.Part4 f = isFlag (f .«parity_good») && isShort (f .value)
 
--- what the numbers mean, for every kind; within `most` the remainders are the value itself
+-- what the numbers mean, for every kind; where they fit, the remainders are the value itself
 abbrev pub fieldsOf : FlatRecord → Fields
 fieldsOf f = record {
   status = statusOf (f .status);
@@ -119,7 +126,7 @@ recordAs k f = record { source = f .source; body = bodyFrom k (fieldsOf f) }
 abbrev pub recordOfKind : Kind → FlatRecord → Decoded
 recordOfKind k f =
     cond (leb (f .source) 3 && listed k f)
-    (cond (leb (f .value) (most k)) (Decoded.Accepted (recordAs k f)) (Decoded.Refused Refusal.Value))
+    (cond (fits k f) (Decoded.Accepted (recordAs k f)) (Decoded.Refused Refusal.Value))
     (Decoded.Refused Refusal.Code)
 
 abbrev pub recordFound : Lookup → FlatRecord → Decoded
@@ -135,8 +142,32 @@ recordFrom f = recordFound (kindAt (f .kind)) f
 pub codes-broken : (k : Kind) (f : FlatRecord) → (leb (f .source) 3 && listed k f) ≡ false → recordOfKind k f ≡ Decoded.Refused Refusal.Code
 codes-broken k f c = rw c
 
-pub value-broken : (k : Kind) (f : FlatRecord) → (leb (f .source) 3 && listed k f) ≡ true → leb (f .value) (most k) ≡ false → recordOfKind k f ≡ Decoded.Refused Refusal.Value
+pub value-broken : (k : Kind) (f : FlatRecord) → (leb (f .source) 3 && listed k f) ≡ true → fits k f ≡ false → recordOfKind k f ≡ Decoded.Refused Refusal.Value
 value-broken k f c v = rw (c, v)
 
-pub all-kept : (k : Kind) (f : FlatRecord) → (leb (f .source) 3 && listed k f) ≡ true → leb (f .value) (most k) ≡ true → recordOfKind k f ≡ Decoded.Accepted (recordAs k f)
+pub all-kept : (k : Kind) (f : FlatRecord) → (leb (f .source) 3 && listed k f) ≡ true → fits k f ≡ true → recordOfKind k f ≡ Decoded.Accepted (recordAs k f)
 all-kept k f c v = rw (c, v)
+
+-- ---- a flag is no code
+
+-- the same numbers with every flag 0
+abbrev pub flagless : FlatRecord → FlatRecord
+flagless f = record {
+  refusal = f .refusal;
+  kind = f .kind;
+  source = f .source;
+  status = f .status;
+  marker = f .marker;
+  category = f .category;
+  inhibit = 0;
+  clearance = 0;
+  manual = 0;
+  «parity_good» = 0;
+  «word_number» = f .«word_number»;
+  count = f .count;
+  value = f .value;
+}
+
+-- Which numbers are refused with 4 does not depend on a flag: document 01 has lists for codes, and a flag is none.
+pub flags-no-code : (f : FlatRecord) (k : Kind) → listed k (flagless f) ≡ listed k f
+flags-no-code f k = agree (λ j. listed j (flagless f)) (λ j. listed j f) refl k

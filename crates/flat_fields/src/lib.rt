@@ -14,7 +14,7 @@ use records::MlsCount;
 use records::Record;
 use refusals::Refusal;
 ghost use mathlib.Core.Path.{_≡_};
-ghost use Rattle.flat_fields.specs.Fields.{kindAt, listed, most, fieldsOf, bodyFrom, recordOfKind, recordFrom};
+ghost use Rattle.flat_fields.specs.Fields.{kindAt, listed, fits, fieldsOf, bodyFrom, recordOfKind, recordFrom};
 
 // Every field that some kind of record has, as its numbers give it.
 struct Fields {
@@ -64,51 +64,53 @@ fn codes_listed(kind: Kind, f: FlatRecord) -> bool
     ensures { λ r. ⌜ r ≡ listed kind f ⌝ }
 {
     let status = (1 <= f.status) & (f.status <= 4);
-    let inhibit = f.inhibit <= 1;
-    let clearance = f.clearance <= 1;
-    let manual = f.manual <= 1;
-    let good = f.parity_good <= 1;
     let category = f.category <= 3;
     let marker = codes::is_marker(f.marker as u32);
     match kind {
         Kind::VorAzimuth => status & marker,
         Kind::VorFrequency => status,
-        Kind::IlsCourse => status & inhibit,
-        Kind::IlsGlide => status & inhibit,
+        Kind::IlsCourse => status,
+        Kind::IlsGlide => status,
         Kind::IlsFrequency => status & category,
         Kind::MlsFrequency => status,
-        Kind::MlsAzimuthDeviation => status & (inhibit & clearance),
-        Kind::MlsGlideDeviation => status & (inhibit & clearance),
-        Kind::SelectedAzimuth => status & manual,
+        Kind::MlsAzimuthDeviation => status,
+        Kind::MlsGlideDeviation => status,
+        Kind::SelectedAzimuth => status,
         Kind::GreatestGlideAngle => status,
-        Kind::SelectedGlideAngle => status & manual,
+        Kind::SelectedGlideAngle => status,
         Kind::Part1 => true,
         Kind::Part2 => true,
         Kind::Part3 => true,
-        Kind::Part4 => good,
+        Kind::Part4 => true,
     }
 }
 
-// The greatest value that the record of a kind can hold.
-fn greatest_value(kind: Kind) -> u32
-    ensures { λ r. ⌜ r ≡ most kind ⌝ }
+// Whether every other field that the kind has is one that its record can hold.
+fn fields_fit(kind: Kind, f: FlatRecord) -> bool
+    ensures { λ r. ⌜ r ≡ fits kind f ⌝ }
 {
+    let inhibit = f.inhibit <= 1;
+    let clearance = f.clearance <= 1;
+    let manual = f.manual <= 1;
+    let good = f.parity_good <= 1;
+    let octet = f.value <= 255;
+    let short = f.value <= 65535;
     match kind {
-        Kind::VorAzimuth => 4294967295,
-        Kind::VorFrequency => 4294967295,
-        Kind::IlsCourse => 4294967295,
-        Kind::IlsGlide => 4294967295,
-        Kind::IlsFrequency => 4294967295,
-        Kind::MlsFrequency => 4294967295,
-        Kind::MlsAzimuthDeviation => 4294967295,
-        Kind::MlsGlideDeviation => 4294967295,
-        Kind::SelectedAzimuth => 65535,
-        Kind::GreatestGlideAngle => 65535,
-        Kind::SelectedGlideAngle => 65535,
-        Kind::Part1 => 255,
-        Kind::Part2 => 65535,
-        Kind::Part3 => 65535,
-        Kind::Part4 => 65535,
+        Kind::VorAzimuth => true,
+        Kind::VorFrequency => true,
+        Kind::IlsCourse => inhibit,
+        Kind::IlsGlide => inhibit,
+        Kind::IlsFrequency => true,
+        Kind::MlsFrequency => true,
+        Kind::MlsAzimuthDeviation => inhibit & clearance,
+        Kind::MlsGlideDeviation => inhibit & clearance,
+        Kind::SelectedAzimuth => manual & short,
+        Kind::GreatestGlideAngle => short,
+        Kind::SelectedGlideAngle => manual & short,
+        Kind::Part1 => octet,
+        Kind::Part2 => short,
+        Kind::Part3 => short,
+        Kind::Part4 => good & short,
     }
 }
 
@@ -223,7 +225,7 @@ fn record_of_kind(kind: Kind, f: FlatRecord) -> Decoded
     if !codes {
         return Decoded::Refused(Refusal::Code);
     }
-    if greatest_value(kind) < f.value {
+    if !fields_fit(kind, f) {
         return Decoded::Refused(Refusal::Value);
     }
     Decoded::Accepted(Record {

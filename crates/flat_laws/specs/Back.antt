@@ -9,26 +9,26 @@ use borrow.Author.Tests.{le-leb, leb-true}
 use lib.Dec.{leb}
 use Rattle.bits.specs.Laws.{both-true}
 use Rattle.codes.specs.Codes.{marker-of, category-of, flag-of}
-use Rattle.frequencies.specs.Frequencies.{vhf-range, mls-range}
 use Rattle.records.specs.Kinds.{kindOf}
 use Rattle.records.specs.declared.Body.{Body}
 use Rattle.records.specs.declared.Kind.{Kind}
 use Rattle.records.specs.declared.Record.{Record}
+use Rattle.labels.specs.declared.Lookup.{Lookup}
 use Rattle.decode.specs.declared.Decoded.{Decoded}
 use Rattle.encode.specs.Encode.{valuesLegal}
 use Rattle.flat_records.specs.Numbers.{flatBody, flatOf}
 use Rattle.flat_records.specs.declared.FlatRecord.{FlatRecord}
-use Rattle.flat_fields.specs.Fields.{listed, most, fieldsOf, bodyFrom, recordOfKind, recordFrom, all-kept}
-use Rattle.flat_laws.specs.Codes.{status-listed, marker-listed, category-listed, flag-listed, status-of}
+use Rattle.flat_fields.specs.Fields.{kindAt, listed, isShort, fits, fieldsOf, bodyFrom, recordOfKind, recordFound, recordFrom, all-kept}
+use Rattle.flat_laws.specs.Codes.{status-listed, marker-listed, category-listed, flag-fits, status-of}
 
 -- the numbers of a body are those that its fields' types hold
 abbrev pub Bounded : Body → Type 0
 Bounded (Body.VorAzimuth status marker count) = Unit
-Bounded (Body.VorFrequency status frequency) = frequency < 2 ^ 32
+Bounded (Body.VorFrequency status frequency) = Unit
 Bounded (Body.IlsCourse status inhibit count) = Unit
 Bounded (Body.IlsGlide status inhibit count) = Unit
-Bounded (Body.IlsFrequency status category frequency) = frequency < 2 ^ 32
-Bounded (Body.MlsFrequency status frequency) = frequency < 2 ^ 32
+Bounded (Body.IlsFrequency status category frequency) = Unit
+Bounded (Body.MlsFrequency status frequency) = Unit
 Bounded (Body.MlsAzimuthDeviation status inhibit clearance count) = Unit
 Bounded (Body.MlsGlideDeviation status inhibit clearance count) = Unit
 Bounded (Body.SelectedAzimuth status manual degrees) = degrees < 2 ^ 16
@@ -42,11 +42,11 @@ Bounded (Body.Part4 good content) = content < 2 ^ 16
 -- a legal body's are
 pub legal-bounded : (b : Body) → valuesLegal b ≡ true → Bounded b
 legal-bounded (Body.VorAzimuth s m c) e = tt
-legal-bounded (Body.VorFrequency s f) e = omega (arith, vhf-range f e .1)
+legal-bounded (Body.VorFrequency s f) e = tt
 legal-bounded (Body.IlsCourse s i c) e = tt
 legal-bounded (Body.IlsGlide s i c) e = tt
-legal-bounded (Body.IlsFrequency s k f) e = omega (arith, vhf-range f e .1)
-legal-bounded (Body.MlsFrequency s f) e = omega (arith, mls-range f e .1)
+legal-bounded (Body.IlsFrequency s k f) e = tt
+legal-bounded (Body.MlsFrequency s f) e = tt
 legal-bounded (Body.MlsAzimuthDeviation s i l c) e = tt
 legal-bounded (Body.MlsGlideDeviation s i l c) e = tt
 legal-bounded (Body.SelectedAzimuth s m d) e = omega (arith, leb-true d 359 e)
@@ -63,102 +63,87 @@ both p q = ap₂ _&&_ p q
 short : (n : ℕ) → n < 2 ^ 16 → n % 65536 ≡ n
 short n h = mod-eq-of-lt h
 
+short-fits : (n : ℕ) → n < 2 ^ 16 → isShort n ≡ true
+short-fits n h = le-leb n 65535 (omega arith)
+
 -- what a body's numbers are tested for, and what they mean
-pub record Stands (b : Body) (f : FlatRecord) : Type 0 where
+pub record Represents (b : Body) (f : FlatRecord) : Type 0 where
   pub codes : listed (kindOf b) f ≡ true
-  pub value : leb (f .value) (most (kindOf b)) ≡ true
+  pub others : fits (kindOf b) f ≡ true
   pub body : bodyFrom (kindOf b) (fieldsOf f) ≡ b
 
-pub stands : (s : ℕ) (b : Body) → Bounded b → Stands b (flatBody s b)
-stands s (Body.VorAzimuth t m c) h =
-    record { codes = both (status-listed t) (marker-listed m); value = refl; body = λ i. Body.VorAzimuth (status-of t i) (marker-of m i) c }
-stands s (Body.VorFrequency t f) h =
-    record { codes = status-listed t; value = le-leb f 4294967295 (omega arith); body = λ i. Body.VorFrequency (status-of t i) f }
-stands s (Body.IlsCourse t n c) h =
-    record { codes = both (status-listed t) (flag-listed n); value = refl; body = λ i. Body.IlsCourse (status-of t i) (flag-of n i) c }
-stands s (Body.IlsGlide t n c) h =
-    record { codes = both (status-listed t) (flag-listed n); value = refl; body = λ i. Body.IlsGlide (status-of t i) (flag-of n i) c }
-stands s (Body.IlsFrequency t k f) h =
+pub represents : (s : ℕ) (b : Body) → Bounded b → Represents b (flatBody s b)
+represents s (Body.VorAzimuth t m c) h =
+    record { codes = both (status-listed t) (marker-listed m); others = refl; body = λ i. Body.VorAzimuth (status-of t i) (marker-of m i) c }
+represents s (Body.VorFrequency t f) h = record { codes = status-listed t; others = refl; body = λ i. Body.VorFrequency (status-of t i) f }
+represents s (Body.IlsCourse t n c) h =
+    record { codes = status-listed t; others = flag-fits n; body = λ i. Body.IlsCourse (status-of t i) (flag-of n i) c }
+represents s (Body.IlsGlide t n c) h =
+    record { codes = status-listed t; others = flag-fits n; body = λ i. Body.IlsGlide (status-of t i) (flag-of n i) c }
+represents s (Body.IlsFrequency t k f) h =
+    record { codes = both (status-listed t) (category-listed k); others = refl; body = λ i. Body.IlsFrequency (status-of t i) (category-of k i) f }
+represents s (Body.MlsFrequency t f) h = record { codes = status-listed t; others = refl; body = λ i. Body.MlsFrequency (status-of t i) f }
+represents s (Body.MlsAzimuthDeviation t n l c) h =
     record {
-      codes = both (status-listed t) (category-listed k);
-      value = le-leb f 4294967295 (omega arith);
-      body = λ i. Body.IlsFrequency (status-of t i) (category-of k i) f;
-    }
-stands s (Body.MlsFrequency t f) h =
-    record { codes = status-listed t; value = le-leb f 4294967295 (omega arith); body = λ i. Body.MlsFrequency (status-of t i) f }
-stands s (Body.MlsAzimuthDeviation t n l c) h =
-    record {
-      codes = both (status-listed t) (both (flag-listed n) (flag-listed l));
-      value = refl;
+      codes = status-listed t;
+      others = both (flag-fits n) (flag-fits l);
       body = λ i. Body.MlsAzimuthDeviation (status-of t i) (flag-of n i) (flag-of l i) c;
     }
-stands s (Body.MlsGlideDeviation t n l c) h =
+represents s (Body.MlsGlideDeviation t n l c) h =
     record {
-      codes = both (status-listed t) (both (flag-listed n) (flag-listed l));
-      value = refl;
+      codes = status-listed t;
+      others = both (flag-fits n) (flag-fits l);
       body = λ i. Body.MlsGlideDeviation (status-of t i) (flag-of n i) (flag-of l i) c;
     }
-stands s (Body.SelectedAzimuth t m d) h =
+represents s (Body.SelectedAzimuth t m d) h =
     record {
-      codes = both (status-listed t) (flag-listed m);
-      value = le-leb d 65535 (omega arith);
+      codes = status-listed t;
+      others = both (flag-fits m) (short-fits d h);
       body = λ i. Body.SelectedAzimuth (status-of t i) (flag-of m i) (short d h i);
     }
-stands s (Body.GreatestGlideAngle t d) h =
-    record { codes = status-listed t; value = le-leb d 65535 (omega arith); body = λ i. Body.GreatestGlideAngle (status-of t i) (short d h i) }
-stands s (Body.SelectedGlideAngle t m d) h =
+represents s (Body.GreatestGlideAngle t d) h =
+    record { codes = status-listed t; others = short-fits d h; body = λ i. Body.GreatestGlideAngle (status-of t i) (short d h i) }
+represents s (Body.SelectedGlideAngle t m d) h =
     record {
-      codes = both (status-listed t) (flag-listed m);
-      value = le-leb d 65535 (omega arith);
+      codes = status-listed t;
+      others = both (flag-fits m) (short-fits d h);
       body = λ i. Body.SelectedGlideAngle (status-of t i) (flag-of m i) (short d h i);
     }
-stands s (Body.Part1 n c) h = record { codes = refl; value = le-leb c 255 (omega arith); body = λ i. Body.Part1 n (mod-eq-of-lt h i) }
-stands s (Body.Part2 c) h = record { codes = refl; value = le-leb c 65535 (omega arith); body = λ i. Body.Part2 (short c h i) }
-stands s (Body.Part3 c) h = record { codes = refl; value = le-leb c 65535 (omega arith); body = λ i. Body.Part3 (short c h i) }
-stands s (Body.Part4 g c) h = record { codes = flag-listed g; value = le-leb c 65535 (omega arith); body = λ i. Body.Part4 (flag-of g i) (short c h i) }
+represents s (Body.Part1 n c) h = record { codes = refl; others = le-leb c 255 (omega arith); body = λ i. Body.Part1 n (mod-eq-of-lt h i) }
+represents s (Body.Part2 c) h = record { codes = refl; others = short-fits c h; body = λ i. Body.Part2 (short c h i) }
+represents s (Body.Part3 c) h = record { codes = refl; others = short-fits c h; body = λ i. Body.Part3 (short c h i) }
+represents s (Body.Part4 g c) h =
+    record { codes = refl; others = both (flag-fits g) (short-fits c h); body = λ i. Body.Part4 (flag-of g i) (short c h i) }
 
--- the numbers of a body are looked at as those of its kind
-read-as : (s : ℕ) (b : Body) → recordFrom (flatBody s b) ≡ recordOfKind (kindOf b) (flatBody s b)
-read-as s (Body.VorAzimuth t m c) = refl
-read-as s (Body.VorFrequency t f) = refl
-read-as s (Body.IlsCourse t n c) = refl
-read-as s (Body.IlsGlide t n c) = refl
-read-as s (Body.IlsFrequency t k f) = refl
-read-as s (Body.MlsFrequency t f) = refl
-read-as s (Body.MlsAzimuthDeviation t n l c) = refl
-read-as s (Body.MlsGlideDeviation t n l c) = refl
-read-as s (Body.SelectedAzimuth t m d) = refl
-read-as s (Body.GreatestGlideAngle t d) = refl
-read-as s (Body.SelectedGlideAngle t m d) = refl
-read-as s (Body.Part1 n c) = refl
-read-as s (Body.Part2 c) = refl
-read-as s (Body.Part3 c) = refl
-read-as s (Body.Part4 g c) = refl
+-- in the numbers of every body stand no refusal, the source, and the place of its kind
+pub heads : (s : ℕ) (b : Body) → (flatBody s b .refusal ≡ 0) × (flatBody s b .source ≡ s) × (kindAt (flatBody s b .kind) ≡ Lookup.Known (kindOf b))
+heads s (Body.VorAzimuth t m c) = (refl, refl, refl)
+heads s (Body.VorFrequency t f) = (refl, refl, refl)
+heads s (Body.IlsCourse t n c) = (refl, refl, refl)
+heads s (Body.IlsGlide t n c) = (refl, refl, refl)
+heads s (Body.IlsFrequency t k f) = (refl, refl, refl)
+heads s (Body.MlsFrequency t f) = (refl, refl, refl)
+heads s (Body.MlsAzimuthDeviation t n l c) = (refl, refl, refl)
+heads s (Body.MlsGlideDeviation t n l c) = (refl, refl, refl)
+heads s (Body.SelectedAzimuth t m d) = (refl, refl, refl)
+heads s (Body.GreatestGlideAngle t d) = (refl, refl, refl)
+heads s (Body.SelectedGlideAngle t m d) = (refl, refl, refl)
+heads s (Body.Part1 n c) = (refl, refl, refl)
+heads s (Body.Part2 c) = (refl, refl, refl)
+heads s (Body.Part3 c) = (refl, refl, refl)
+heads s (Body.Part4 g c) = (refl, refl, refl)
 
-source-of : (s : ℕ) (b : Body) → flatBody s b .source ≡ s
-source-of s (Body.VorAzimuth t m c) = refl
-source-of s (Body.VorFrequency t f) = refl
-source-of s (Body.IlsCourse t n c) = refl
-source-of s (Body.IlsGlide t n c) = refl
-source-of s (Body.IlsFrequency t k f) = refl
-source-of s (Body.MlsFrequency t f) = refl
-source-of s (Body.MlsAzimuthDeviation t n l c) = refl
-source-of s (Body.MlsGlideDeviation t n l c) = refl
-source-of s (Body.SelectedAzimuth t m d) = refl
-source-of s (Body.GreatestGlideAngle t d) = refl
-source-of s (Body.SelectedGlideAngle t m d) = refl
-source-of s (Body.Part1 n c) = refl
-source-of s (Body.Part2 c) = refl
-source-of s (Body.Part3 c) = refl
-source-of s (Body.Part4 g c) = refl
+-- so they are looked at as those of its kind
+pub read-as : (s : ℕ) (b : Body) → recordFrom (flatBody s b) ≡ recordOfKind (kindOf b) (flatBody s b)
+read-as s b = ap (λ (l : Lookup). recordFound l (flatBody s b)) (heads s b .2)
 
 -- a record with a legal source, whose numbers their types hold, is what its numbers stand for
 pub record-back : (r : Record) → r .source ≤ 3 → Bounded (r .body) → recordFrom (flatOf (Decoded.Accepted r)) ≡ Decoded.Accepted r
 record-back r h b =
     let f : FlatRecord = flatBody (r .source) (r .body) in
     let k : Kind = kindOf (r .body) in
-    let s = stands (r .source) (r .body) b in
-    let source = source-of (r .source) (r .body) in
+    let s = represents (r .source) (r .body) b in
+    let source = heads (r .source) (r .body) .1 in
     read-as (r .source) (r .body)
-    ∙ all-kept k f (both (ap (λ (n : ℕ). leb n 3) source ∙ le-leb (r .source) 3 h) (s .codes)) (s .value)
+    ∙ all-kept k f (both (ap (λ (n : ℕ). leb n 3) source ∙ le-leb (r .source) 3 h) (s .codes)) (s .others)
     ∙ (λ i. Decoded.Accepted (record { source = source i; body = s .body i }))

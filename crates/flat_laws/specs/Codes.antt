@@ -1,9 +1,9 @@
 -- The numbers of statuses, markers, categories and flags are in their lists, and each gives its code back; so do the places of the kinds.
 -- Assumes nothing.
 use mathlib.Core.Path.{_≡_, refl, sym, ap, _∙_}
-use mathlib.Core.Bool.{Bool, true, false, cond, _&&_}
+use mathlib.Core.Bool.{Bool, true, false, cond}
 use mathlib.Core.List.{List, [], _∷_}
-use Prim.Native.Nat.{ℕ, zero, suc, _+_, _≤_, _<_}
+use Prim.Native.Nat.{ℕ, zero, suc, _+_, _≤_}
 use native.Mathlib.Omega.{arith}
 use borrow.Author.Tests.{eqb-true, leb-true}
 use lib.Dec.{eqb, leb}
@@ -13,10 +13,10 @@ use Rattle.codes.specs.declared.Category.{Category}
 use Rattle.records.specs.declared.Kind.{Kind}
 use Rattle.codes.specs.declared.Marker.{Marker}
 use Rattle.codes.specs.declared.Status.{Status}
-use Rattle.records.specs.All.{kinds}
+use Rattle.records.specs.All.{kinds, agree}
 use Rattle.labels.specs.declared.Lookup.{Lookup}
 use Rattle.flat_records.specs.Numbers.{statusNumber}
-use Rattle.flat_fields.specs.Fields.{statusOf, statusListed, flagListed, kindIn, kindAt}
+use Rattle.flat_fields.specs.Fields.{statusOf, statusListed, isFlag, kindIn, kindAt}
 
 -- ---- a code is in its list
 
@@ -38,9 +38,9 @@ category-listed Category.I = refl
 category-listed Category.II = refl
 category-listed Category.III = refl
 
-pub flag-listed : (b : Bool) → flagListed (flagBit b) ≡ true
-flag-listed false = refl
-flag-listed true = refl
+pub flag-fits : (b : Bool) → isFlag (flagBit b) ≡ true
+flag-fits false = refl
+flag-fits true = refl
 
 -- ---- a status gives its number, and the number the status
 
@@ -68,7 +68,7 @@ status-number n e =
 pub category-number : (n : ℕ) → leb n 3 ≡ true → categoryCode (categoryOf n) ≡ n
 category-number n e = category-code n (omega (arith, leb-true n 3 e))
 
-pub flag-number : (n : ℕ) → flagListed n ≡ true → flagBit (eqb n 1) ≡ n
+pub flag-number : (n : ℕ) → isFlag n ≡ true → flagBit (eqb n 1) ≡ n
 flag-number n e = flag-bit n (omega (arith, leb-true n 1 e))
 
 -- ---- a place of document 01's table, counted from 1, gives its kind, and only that place does
@@ -91,21 +91,7 @@ placeOf Kind.Part3 = 14
 placeOf Kind.Part4 = 15
 
 pub kind-at : (k : Kind) → kindAt (placeOf k) ≡ Lookup.Known k
-kind-at Kind.VorAzimuth = refl
-kind-at Kind.VorFrequency = refl
-kind-at Kind.IlsCourse = refl
-kind-at Kind.IlsGlide = refl
-kind-at Kind.IlsFrequency = refl
-kind-at Kind.MlsFrequency = refl
-kind-at Kind.MlsAzimuthDeviation = refl
-kind-at Kind.MlsGlideDeviation = refl
-kind-at Kind.SelectedAzimuth = refl
-kind-at Kind.GreatestGlideAngle = refl
-kind-at Kind.SelectedGlideAngle = refl
-kind-at Kind.Part1 = refl
-kind-at Kind.Part2 = refl
-kind-at Kind.Part3 = refl
-kind-at Kind.Part4 = refl
+kind-at k = agree (λ j. kindAt (placeOf j)) Lookup.Known refl k
 
 -- a run of the table, at its places
 abbrev Placed : List Kind → ℕ → Type 0

@@ -2,36 +2,19 @@
 -- Assumes nothing.
 use mathlib.Core.Path.{_≡_, refl, sym, ap, _∙_}
 use Prim.Native.Nat.{ℕ, _^_, _<_}
-use Rattle.records.specs.declared.Body.{Body}
 use Rattle.records.specs.declared.Record.{Record}
 use Rattle.decode.specs.Decode.{decodeOf}
 use Rattle.decode.specs.declared.Decoded.{Decoded}
-use Rattle.flat_records.specs.Numbers.{flatBody, flatOf}
+use Rattle.flat_records.specs.Numbers.{flatOf}
 use Rattle.flat_records.specs.declared.FlatRecord.{FlatRecord}
 use Rattle.flat_words.specs.Words.{encodeFlat}
 use Rattle.flat_words.specs.declared.FlatWord.{FlatWord}
+use Rattle.flat_laws.specs.Back.{heads}
 use Rattle.flat_laws.specs.Words.{no-number, word-back}
-
-accepted-0 : (s : ℕ) (b : Body) → flatBody s b .refusal ≡ 0
-accepted-0 s (Body.VorAzimuth t m c) = refl
-accepted-0 s (Body.VorFrequency t f) = refl
-accepted-0 s (Body.IlsCourse t n c) = refl
-accepted-0 s (Body.IlsGlide t n c) = refl
-accepted-0 s (Body.IlsFrequency t k f) = refl
-accepted-0 s (Body.MlsFrequency t f) = refl
-accepted-0 s (Body.MlsAzimuthDeviation t n l c) = refl
-accepted-0 s (Body.MlsGlideDeviation t n l c) = refl
-accepted-0 s (Body.SelectedAzimuth t m d) = refl
-accepted-0 s (Body.GreatestGlideAngle t d) = refl
-accepted-0 s (Body.SelectedGlideAngle t m d) = refl
-accepted-0 s (Body.Part1 n c) = refl
-accepted-0 s (Body.Part2 c) = refl
-accepted-0 s (Body.Part3 c) = refl
-accepted-0 s (Body.Part4 g c) = refl
 
 -- an accepted word has the number 0
 pub accepted-number : (r : Record) → flatOf (Decoded.Accepted r) .refusal ≡ 0
-accepted-number r = accepted-0 (r .source) (r .body)
+accepted-number r = heads (r .source) (r .body) .0
 
 -- and the number 0 an accepted word
 pub number-accepted : (d : Decoded) → flatOf d .refusal ≡ 0 → (r : Record) × (d ≡ Decoded.Accepted r)

@@ -2,13 +2,14 @@
 -- refusals of numbers: 2, then 4, then 6.
 -- Assumes nothing.
 use mathlib.Core.Path.{_≡_, refl, sym, ap, ap₂, _∙_}
-use mathlib.Core.Bool.{Bool, true, false, cond, _&&_}
-use Prim.Native.Nat.{ℕ, _^_, _≤_, _<_}
+use mathlib.Core.Bool.{Bool, true, false, _&&_, false≢true}
+use Prim.Native.Nat.{ℕ, _^_, _<_}
 use native.Mathlib.Omega.{arith}
-use borrow.Author.Tests.{le-leb, leb-true}
+use borrow.Author.Tests.{leb-true}
 use lib.Dec.{leb}
 use Rattle.bits.specs.Laws.{both-true}
 use Rattle.refusals.specs.Numbers.{numberOf, number-bounds}
+use Rattle.records.specs.Kinds.{kindOf}
 use Rattle.records.specs.declared.Kind.{Kind}
 use Rattle.records.specs.declared.Record.{Record}
 use Rattle.refusals.specs.declared.Refusal.{Refusal}
@@ -19,13 +20,13 @@ use Rattle.decode.specs.declared.Decoded.{Decoded}
 use Rattle.encode.specs.Encode.{codesListed, valuesLegal, encodeOf, codes-broken, values-broken}
 use Rattle.encode.specs.declared.Encoded.{Encoded}
 use Rattle.roundtrip.specs.RoundTrip.{decode-encode, encode-decode, written}
-use Rattle.flat_records.specs.Numbers.{flatOf}
+use Rattle.flat_records.specs.Numbers.{flatBody, flatOf}
 use Rattle.flat_records.specs.declared.FlatRecord.{FlatRecord}
-use Rattle.flat_fields.specs.Fields.{kindAt, listed, most, fieldsOf, bodyFrom, recordAs, recordOfKind, recordFound, recordFrom}
+use Rattle.flat_fields.specs.Fields.{kindAt, listed, fits, fieldsOf, bodyFrom, recordAs, recordOfKind, recordFound, recordFrom}
 use Rattle.flat_fields.specs.Fields.{codes-broken as numbers-broken, value-broken, all-kept}
 use Rattle.flat_words.specs.Words.{flatWord, encoded, encodeFlat}
 use Rattle.flat_words.specs.declared.FlatWord.{FlatWord}
-use Rattle.flat_laws.specs.Back.{record-back, legal-bounded}
+use Rattle.flat_laws.specs.Back.{Bounded, legal-bounded, heads, read-as, record-back}
 use Rattle.flat_laws.specs.Forth.{kept, record-forth}
 
 -- ---- there and back
@@ -38,6 +39,19 @@ word-back w r h e =
     ap (λ (d : Decoded). encodeFlat (flatOf d)) e
     ∙ ap (λ (d : Decoded). flatWord (encoded d)) (record-back r (leb-true (r .source) 3 (legal .source)) (legal-bounded (r .body) (legal .values)))
     ∙ ap flatWord back
+
+-- the numbers of any record that their types hold are written to what the record is written to, and refused as it is
+pub encode-alike : (r : Record) → Bounded (r .body) → encodeFlat (flatOf (Decoded.Accepted r)) ≡ flatWord (encodeOf r)
+encode-alike r h = by (leb (r .source) 3) refl
+  where
+    by : (b : Bool) → leb (r .source) 3 ≡ b → encodeFlat (flatOf (Decoded.Accepted r)) ≡ flatWord (encodeOf r)
+    by true e = ap (λ (d : Decoded). flatWord (encoded d)) (record-back r (leb-true (r .source) 3 e) h)
+    by false e =
+        let k = kindOf (r .body) in
+        let f = flatBody (r .source) (r .body) in
+        let outside = ap (λ (n : ℕ). leb n 3) (heads (r .source) (r .body) .1) ∙ e in
+        ap (λ (d : Decoded). flatWord (encoded d)) (read-as (r .source) (r .body) ∙ numbers-broken k f (ap (λ (x : Bool). x && listed k f) outside))
+        ∙ sym (ap flatWord (codes-broken document01 r (ap (λ (x : Bool). x && codesListed (r .body)) e)))
 
 -- no refusal has the number 0
 pub no-number : (x : Refusal) → numberOf x ≡ 0 → ⊥
@@ -68,36 +82,36 @@ allListed k f = (leb (f .source) 3 && listed k f) && codesListed (bodyFrom k (fi
 
 -- every other field is legal
 abbrev pub allLegal : Kind → FlatRecord → Bool
-allLegal k f = leb (f .value) (most k) && valuesLegal (bodyFrom k (fieldsOf f))
+allLegal k f = fits k f && valuesLegal (bodyFrom k (fieldsOf f))
 
 -- 2: no kind has the number
 pub no-kind : (f : FlatRecord) → kindAt (f .kind) ≡ Lookup.Unknown → encodeFlat f ≡ refusedBy Refusal.Label
 no-kind f e = ap (λ (l : Lookup). flatWord (encoded (recordFound l f))) e
 
--- kinds whose value has fewer than 32 bits have a code for every status
-pub short-coded : (k : Kind) (f : FlatRecord) → f .value < 2 ^ 32 → leb (f .value) (most k) ≡ false → codesListed (bodyFrom k (fieldsOf f)) ≡ true
-short-coded Kind.VorAzimuth f h e = refl
-short-coded Kind.VorFrequency f h e = absurd (let z : false ≡ true = sym e ∙ le-leb (f .value) 4294967295 (omega arith) in let y : _≡_ {A = ℕ} 0 1 = cc in omega arith)
-short-coded Kind.IlsCourse f h e = refl
-short-coded Kind.IlsGlide f h e = refl
-short-coded Kind.IlsFrequency f h e = absurd (let z : false ≡ true = sym e ∙ le-leb (f .value) 4294967295 (omega arith) in let y : _≡_ {A = ℕ} 0 1 = cc in omega arith)
-short-coded Kind.MlsFrequency f h e = absurd (let z : false ≡ true = sym e ∙ le-leb (f .value) 4294967295 (omega arith) in let y : _≡_ {A = ℕ} 0 1 = cc in omega arith)
-short-coded Kind.MlsAzimuthDeviation f h e = refl
-short-coded Kind.MlsGlideDeviation f h e = refl
-short-coded Kind.SelectedAzimuth f h e = refl
-short-coded Kind.GreatestGlideAngle f h e = refl
-short-coded Kind.SelectedGlideAngle f h e = refl
-short-coded Kind.Part1 f h e = refl
-short-coded Kind.Part2 f h e = refl
-short-coded Kind.Part3 f h e = refl
-short-coded Kind.Part4 f h e = refl
+-- kinds of which a field may not fit have a code for every status
+unfit-coded : (k : Kind) (f : FlatRecord) → fits k f ≡ false → codesListed (bodyFrom k (fieldsOf f)) ≡ true
+unfit-coded Kind.VorAzimuth f e = refl
+unfit-coded Kind.VorFrequency f e = absurd (false≢true (sym e))
+unfit-coded Kind.IlsCourse f e = refl
+unfit-coded Kind.IlsGlide f e = refl
+unfit-coded Kind.IlsFrequency f e = absurd (false≢true (sym e))
+unfit-coded Kind.MlsFrequency f e = absurd (false≢true (sym e))
+unfit-coded Kind.MlsAzimuthDeviation f e = refl
+unfit-coded Kind.MlsGlideDeviation f e = refl
+unfit-coded Kind.SelectedAzimuth f e = refl
+unfit-coded Kind.GreatestGlideAngle f e = refl
+unfit-coded Kind.SelectedGlideAngle f e = refl
+unfit-coded Kind.Part1 f e = refl
+unfit-coded Kind.Part2 f e = refl
+unfit-coded Kind.Part3 f e = refl
+unfit-coded Kind.Part4 f e = refl
 
-module _ (f : FlatRecord) (k : Kind) (known : kindAt (f .kind) ≡ Lookup.Known k) (narrow : f .value < 2 ^ 32) where
+module _ (f : FlatRecord) (k : Kind) (known : kindAt (f .kind) ≡ Lookup.Known k) where
   -- what the numbers of a known kind are written to
   as-kind : encodeFlat f ≡ flatWord (encoded (recordOfKind k f))
   as-kind = ap (λ (l : Lookup). flatWord (encoded (recordFound l f))) known
 
-  by-tests : (s c v : Bool) → (leb (f .source) 3 && listed k f) ≡ s → codesListed (bodyFrom k (fieldsOf f)) ≡ c → leb (f .value) (most k) ≡ v
+  by-tests : (s c v : Bool) → (leb (f .source) 3 && listed k f) ≡ s → codesListed (bodyFrom k (fieldsOf f)) ≡ c → fits k f ≡ v
       → (s && c) ≡ false → encodeFlat f ≡ refusedBy Refusal.Code
   by-tests false c v es ec ev e = as-kind ∙ ap (λ (d : Decoded). flatWord (encoded d)) (numbers-broken k f es)
   by-tests true true v es ec ev e = let z : _≡_ {A = ℕ} 0 1 = cc in absurd (omega arith)
@@ -105,13 +119,13 @@ module _ (f : FlatRecord) (k : Kind) (known : kindAt (f .kind) ≡ Lookup.Known 
       as-kind
       ∙ ap (λ (d : Decoded). flatWord (encoded d)) (all-kept k f es ev)
       ∙ ap flatWord (codes-broken document01 (recordAs k f) (ap₂ _&&_ (both-true (leb (f .source) 3) (listed k f) es .0) ec))
-  by-tests true false false es ec ev e = absurd (let z : true ≡ false = sym (short-coded k f narrow ev) ∙ ec in let y : _≡_ {A = ℕ} 0 1 = cc in omega arith)
+  by-tests true false false es ec ev e = absurd (false≢true (sym ec ∙ unfit-coded k f ev))
 
   -- 4: a code or the source is outside its list, whatever the other fields are
   pub code-first : allListed k f ≡ false → encodeFlat f ≡ refusedBy Refusal.Code
-  code-first e = by-tests (leb (f .source) 3 && listed k f) (codesListed (bodyFrom k (fieldsOf f))) (leb (f .value) (most k)) refl refl refl e
+  code-first e = by-tests (leb (f .source) 3 && listed k f) (codesListed (bodyFrom k (fieldsOf f))) (fits k f) refl refl refl e
 
-  by-values : (v l : Bool) → leb (f .value) (most k) ≡ v → valuesLegal (bodyFrom k (fieldsOf f)) ≡ l → allListed k f ≡ true → (v && l) ≡ false
+  by-values : (v l : Bool) → fits k f ≡ v → valuesLegal (bodyFrom k (fieldsOf f)) ≡ l → allListed k f ≡ true → (v && l) ≡ false
       → encodeFlat f ≡ refusedBy Refusal.Value
   by-values false l ev el c e =
       as-kind
@@ -125,4 +139,4 @@ module _ (f : FlatRecord) (k : Kind) (known : kindAt (f .kind) ≡ Lookup.Known 
 
   -- 6: every code and the source are listed, and another field is not legal
   pub value-second : allListed k f ≡ true → allLegal k f ≡ false → encodeFlat f ≡ refusedBy Refusal.Value
-  value-second c e = by-values (leb (f .value) (most k)) (valuesLegal (bodyFrom k (fieldsOf f))) refl refl c e
+  value-second c e = by-values (fits k f) (valuesLegal (bodyFrom k (fieldsOf f))) refl refl c e

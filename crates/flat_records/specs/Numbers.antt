@@ -17,8 +17,8 @@ statusNumber Status.Test = 3
 statusNumber Status.Ready = 4
 
 -- a kind with a count, one with another value, and a part of group C: zero in every field that is not named
-abbrev pub measured : ℕ → ℕ → ℕ → ℕ → ℕ → ℕ → ℤ → FlatRecord
-measured kind source status marker inhibit clearance count = record {
+abbrev pub withCount : ℕ → ℕ → ℕ → ℕ → ℕ → ℕ → ℤ → FlatRecord
+withCount kind source status marker inhibit clearance count = record {
   refusal = 0;
   kind = kind;
   source = source;
@@ -34,8 +34,8 @@ measured kind source status marker inhibit clearance count = record {
   value = 0;
 }
 
-abbrev pub valued : ℕ → ℕ → ℕ → ℕ → ℕ → ℕ → FlatRecord
-valued kind source status category manual value = record {
+abbrev pub withValue : ℕ → ℕ → ℕ → ℕ → ℕ → ℕ → FlatRecord
+withValue kind source status category manual value = record {
   refusal = 0;
   kind = kind;
   source = source;
@@ -70,17 +70,17 @@ part kind source good number content = record {
 
 -- the numbers of a record, from its source and body
 abbrev pub flatBody : ℕ → Body → FlatRecord
-flatBody s (Body.VorAzimuth status marker count) = measured 1 s (statusNumber status) (markerCode marker) 0 0 (count .0)
-flatBody s (Body.VorFrequency status frequency) = valued 2 s (statusNumber status) 0 0 frequency
-flatBody s (Body.IlsCourse status inhibit count) = measured 3 s (statusNumber status) 0 (flagBit inhibit) 0 (count .0)
-flatBody s (Body.IlsGlide status inhibit count) = measured 4 s (statusNumber status) 0 (flagBit inhibit) 0 (count .0)
-flatBody s (Body.IlsFrequency status category frequency) = valued 5 s (statusNumber status) (categoryCode category) 0 frequency
-flatBody s (Body.MlsFrequency status frequency) = valued 6 s (statusNumber status) 0 0 frequency
-flatBody s (Body.MlsAzimuthDeviation status inhibit clearance count) = measured 7 s (statusNumber status) 0 (flagBit inhibit) (flagBit clearance) (count .0)
-flatBody s (Body.MlsGlideDeviation status inhibit clearance count) = measured 8 s (statusNumber status) 0 (flagBit inhibit) (flagBit clearance) (count .0)
-flatBody s (Body.SelectedAzimuth status manual degrees) = valued 9 s (statusNumber status) 0 (flagBit manual) degrees
-flatBody s (Body.GreatestGlideAngle status tenths) = valued 10 s (statusNumber status) 0 0 tenths
-flatBody s (Body.SelectedGlideAngle status manual tenths) = valued 11 s (statusNumber status) 0 (flagBit manual) tenths
+flatBody s (Body.VorAzimuth status marker count) = withCount 1 s (statusNumber status) (markerCode marker) 0 0 (count .0)
+flatBody s (Body.VorFrequency status frequency) = withValue 2 s (statusNumber status) 0 0 frequency
+flatBody s (Body.IlsCourse status inhibit count) = withCount 3 s (statusNumber status) 0 (flagBit inhibit) 0 (count .0)
+flatBody s (Body.IlsGlide status inhibit count) = withCount 4 s (statusNumber status) 0 (flagBit inhibit) 0 (count .0)
+flatBody s (Body.IlsFrequency status category frequency) = withValue 5 s (statusNumber status) (categoryCode category) 0 frequency
+flatBody s (Body.MlsFrequency status frequency) = withValue 6 s (statusNumber status) 0 0 frequency
+flatBody s (Body.MlsAzimuthDeviation status inhibit clearance count) = withCount 7 s (statusNumber status) 0 (flagBit inhibit) (flagBit clearance) (count .0)
+flatBody s (Body.MlsGlideDeviation status inhibit clearance count) = withCount 8 s (statusNumber status) 0 (flagBit inhibit) (flagBit clearance) (count .0)
+flatBody s (Body.SelectedAzimuth status manual degrees) = withValue 9 s (statusNumber status) 0 (flagBit manual) degrees
+flatBody s (Body.GreatestGlideAngle status tenths) = withValue 10 s (statusNumber status) 0 0 tenths
+flatBody s (Body.SelectedGlideAngle status manual tenths) = withValue 11 s (statusNumber status) 0 (flagBit manual) tenths
 flatBody s (Body.Part1 number content) = part 12 s 0 number content
 flatBody s (Body.Part2 content) = part 13 s 0 0 content
 flatBody s (Body.Part3 content) = part 14 s 0 0 content

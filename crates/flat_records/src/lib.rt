@@ -7,7 +7,7 @@ use records::Body;
 ghost use mathlib.Core.Path.{_≡_};
 ghost use Rattle.codes.specs.Codes.{markerCode, categoryCode, flagBit};
 ghost use Rattle.decode.specs.Decode.{decodeOf};
-ghost use Rattle.flat_records.specs.Numbers.{statusNumber, measured, valued, part, refused, flatBody, flatOf};
+ghost use Rattle.flat_records.specs.Numbers.{statusNumber, withCount, withValue, part, refused, flatBody, flatOf};
 
 // A record as numbers. Zero stands in every field that the kind has not, and beside a refusal in every other field.
 #[repr(C)]
@@ -77,7 +77,7 @@ pub fn flag_number(flag: bool) -> u8
 }
 
 // The numbers of a record with a count.
-fn measured(
+fn with_count(
     kind: u8,
     source: u8,
     status: Status,
@@ -86,7 +86,7 @@ fn measured(
     clearance: bool,
     count: i16,
 ) -> FlatRecord
-    ensures { λ r. ⌜ r ≡ measured kind source (statusNumber status) (markerCode marker) (flagBit inhibit) (flagBit clearance) count ⌝ }
+    ensures { λ r. ⌜ r ≡ withCount kind source (statusNumber status) (markerCode marker) (flagBit inhibit) (flagBit clearance) count ⌝ }
 {
     FlatRecord {
         refusal: 0,
@@ -106,7 +106,7 @@ fn measured(
 }
 
 // The numbers of a record with another value.
-fn valued(
+fn with_value(
     kind: u8,
     source: u8,
     status: Status,
@@ -114,7 +114,7 @@ fn valued(
     manual: bool,
     value: u32,
 ) -> FlatRecord
-    ensures { λ r. ⌜ r ≡ valued kind source (statusNumber status) (categoryCode category) (flagBit manual) value ⌝ }
+    ensures { λ r. ⌜ r ≡ withValue kind source (statusNumber status) (categoryCode category) (flagBit manual) value ⌝ }
 {
     FlatRecord {
         refusal: 0,
@@ -184,8 +184,8 @@ fn flat_body(source: u8, body: Body) -> FlatRecord
             status,
             marker,
             count,
-        } => measured(1, source, status, marker, false, false, count.0),
-        Body::VorFrequency { status, frequency } => valued(
+        } => with_count(1, source, status, marker, false, false, count.0),
+        Body::VorFrequency { status, frequency } => with_value(
             2,
             source,
             status,
@@ -197,18 +197,18 @@ fn flat_body(source: u8, body: Body) -> FlatRecord
             status,
             inhibit,
             count,
-        } => measured(3, source, status, Marker::None, inhibit, false, count.0),
+        } => with_count(3, source, status, Marker::None, inhibit, false, count.0),
         Body::IlsGlide {
             status,
             inhibit,
             count,
-        } => measured(4, source, status, Marker::None, inhibit, false, count.0),
+        } => with_count(4, source, status, Marker::None, inhibit, false, count.0),
         Body::IlsFrequency {
             status,
             category,
             frequency,
-        } => valued(5, source, status, category, false, frequency),
-        Body::MlsFrequency { status, frequency } => valued(
+        } => with_value(5, source, status, category, false, frequency),
+        Body::MlsFrequency { status, frequency } => with_value(
             6,
             source,
             status,
@@ -221,18 +221,18 @@ fn flat_body(source: u8, body: Body) -> FlatRecord
             inhibit,
             clearance,
             count,
-        } => measured(7, source, status, Marker::None, inhibit, clearance, count.0),
+        } => with_count(7, source, status, Marker::None, inhibit, clearance, count.0),
         Body::MlsGlideDeviation {
             status,
             inhibit,
             clearance,
             count,
-        } => measured(8, source, status, Marker::None, inhibit, clearance, count.0),
+        } => with_count(8, source, status, Marker::None, inhibit, clearance, count.0),
         Body::SelectedAzimuth {
             status,
             manual,
             degrees,
-        } => valued(
+        } => with_value(
             9,
             source,
             status,
@@ -240,7 +240,7 @@ fn flat_body(source: u8, body: Body) -> FlatRecord
             manual,
             degrees as u32,
         ),
-        Body::GreatestGlideAngle { status, tenths } => valued(
+        Body::GreatestGlideAngle { status, tenths } => with_value(
             10,
             source,
             status,
@@ -252,7 +252,7 @@ fn flat_body(source: u8, body: Body) -> FlatRecord
             status,
             manual,
             tenths,
-        } => valued(
+        } => with_value(
             11,
             source,
             status,

@@ -1,9 +1,10 @@
 -- A walk over a sheet with its state and its fields as numbers.
 -- Assumes nothing.
-use mathlib.Core.List.{List}
+use mathlib.Core.List.{List, [], _∷_}
 use Prim.Native.Nat.{ℕ}
-use Rattle.refusals.specs.Numbers.{numberOf, refusalOf}
+use Rattle.refusals.specs.Numbers.{numberOf, numbered}
 use Rattle.refusals.specs.declared.Numbered.{Numbered}
+use Rattle.refusals.specs.declared.Refusal.{Refusal}
 use Rattle.fields.specs.Start.{tagOf}
 use Rattle.walk.specs.declared.Given.{Given}
 use Rattle.walk.specs.declared.Walk.{Walk}
@@ -18,13 +19,17 @@ abbrev pub flatWalk : Walk → FlatWalk
 flatWalk (Walk.At w) = record { refusal = 0; place = w .place; end1 = w .end1; end2 = w .end2; end3 = w .end3 }
 flatWalk (Walk.Refused f p) = record { refusal = numberOf f; place = p; end1 = 0; end2 = 0; end3 = 0 }
 
--- the walk that numbers stand for, for all numbers: that of a refused sheet beside a refusal's number, else a position
+-- the refusals that a sheet can have: 9, 10, 11, 12 and 15
+abbrev pub sheetRefusals : List Refusal
+sheetRefusals = Refusal.Truncated ∷ Refusal.Tag ∷ Refusal.Length ∷ Refusal.Depth ∷ Refusal.Oversize ∷ []
+
+-- the walk that numbers stand for, for all numbers: that of a refused sheet beside the number of such a refusal, beside any other number a position
 abbrev pub walkNumbered : Numbered → FlatWalk → Walk
 walkNumbered (Numbered.Refusal f) w = Walk.Refused f (w .place)
 walkNumbered Numbered.Nothing w = Walk.At (record { place = w .place; end1 = w .end1; end2 = w .end2; end3 = w .end3 })
 
 abbrev pub walkFrom : FlatWalk → Walk
-walkFrom w = walkNumbered (refusalOf (w .refusal)) w
+walkFrom w = walkNumbered (numbered sheetRefusals (w .refusal)) w
 
 -- the numbers of what a step gives
 abbrev pub flatField : Given → FlatField

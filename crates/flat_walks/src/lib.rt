@@ -1,16 +1,18 @@
 // A walk over a sheet with its state and its fields as numbers.
 use fields::FieldKind;
 use refusals::Numbered;
+use refusals::Refusal;
 use walk::Given;
 use walk::Position;
 use walk::Walk;
 use walk::WalkStep;
 ghost use mathlib.Core.Path.{_≡_};
+ghost use Rattle.refusals.specs.Numbers.{numbered};
 ghost use Rattle.fields.specs.Start.{tagOf};
 ghost use Rattle.walk.specs.Step.{startWalk};
-ghost use Rattle.flat_walks.specs.Walks.{flatWalk, walkFrom, flatField, flatStep, stepped};
+ghost use Rattle.flat_walks.specs.Walks.{sheetRefusals, flatWalk, walkFrom, flatField, flatStep, stepped};
 
-// Where a walk stands, as numbers. A refusal's number, 1 to 15, stands for the refused sheet, with its offset as the place; beside any other number
+// Where a walk stands, as numbers. 9, 10, 11, 12 and 15 stand for a sheet refused so, with the refusal's offset as the place; beside any other number
 // stand the place and the ends of a position.
 #[repr(C)]
 pub struct FlatWalk {
@@ -104,12 +106,26 @@ fn flat_walk(walk: Walk) -> FlatWalk
     }
 }
 
+// The refusal of a sheet that has this number, or none.
+fn sheet_refusal(number: u8) -> Numbered
+    ensures { λ r. ⌜ r ≡ numbered sheetRefusals number ⌝ }
+{
+    match number {
+        9 => Numbered::Refusal(Refusal::Truncated),
+        10 => Numbered::Refusal(Refusal::Tag),
+        11 => Numbered::Refusal(Refusal::Length),
+        12 => Numbered::Refusal(Refusal::Depth),
+        15 => Numbered::Refusal(Refusal::Oversize),
+        _ => Numbered::Nothing,
+    }
+}
+
 // The walk that numbers stand for.
 fn walk_from(walk: FlatWalk) -> Walk
     ensures { λ r. ⌜ r ≡ walkFrom walk ⌝ }
 {
     let refusal = walk.refusal;
-    match refusals::refusal_of(refusal) {
+    match sheet_refusal(refusal) {
         Numbered::Refusal(refusal) => Walk::Refused(refusal, walk.place),
         Numbered::Nothing => Walk::At(Position {
             place: walk.place,

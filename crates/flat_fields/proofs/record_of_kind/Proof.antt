@@ -1,8 +1,8 @@
--- The codes, then the value, then the record.
+-- The codes, then the other fields, then the record.
 -- Assumes nothing.
 use mathlib.Core.Path.{sym, ap, _∙_}
 use mathlib.Core.Bool.{Bool, _&&_}
-use borrow.Author.Tests.{not-true, not-false, le-leb, lt-leb}
+use borrow.Author.Tests.{not-true, not-false}
 use lib.Dec.{leb}
 use Rattle.decode.specs.declared.Decoded.{Decoded}
 use Rattle.flat_fields.specs.Fields.{bodyFrom, codes-broken, value-broken, all-kept}
@@ -18,16 +18,16 @@ returns c =
     let a = c .before .before .before .args in
     sym (codes-broken (a .kind) (a .f) (ap (λ (b : Bool). leb (a .f .source) 3 && b) (sym (c .before .codes-listed .ensures)) ∙ not-true _ (c .if1 .taken)))
 
-greatest-value-requires : tie.Need-greatest-value-requires
-greatest-value-requires c κs = search needs
+fields-fit-requires : tie.Need-fields-fit-requires
+fields-fit-requires c κs = search needs
 
 returns-2 : tie.Need-returns-2
 returns-2 c =
-    let a = c .before .before .before .before .before .before .args in
+    let a = c .before .before .before .before .before .args in
     sym
     (value-broken (a .kind) (a .f)
-    (ap (λ (b : Bool). leb (a .f .source) 3 && b) (sym (c .before .before .before .before .codes-listed .ensures)) ∙ not-false _ (c .before .before .before .if1 .left))
-    (ap (leb (a .f .value)) (sym (c .before .before .greatest-value .ensures)) ∙ lt-leb _ _ (c .if2 .taken)))
+    (ap (λ (b : Bool). leb (a .f .source) 3 && b) (sym (c .before .before .before .codes-listed .ensures)) ∙ not-false _ (c .before .before .if1 .left))
+    (sym (c .before .fields-fit .ensures) ∙ not-true _ (c .if2 .taken)))
 
 fields-of-requires : tie.Need-fields-of-requires
 fields-of-requires c κs = search needs
@@ -37,12 +37,12 @@ body-from-requires c κs = search needs
 
 returns-3 : tie.Need-returns-3
 returns-3 c =
-    let a = c .before .before .before .before .before .before .before .before .args in
+    let a = c .before .before .before .before .before .before .before .args in
     (λ i. Decoded.Accepted (record { source = a .f .source; body = (c .body-from .ensures ∙ ap (bodyFrom (a .kind)) (c .before .fields-of .ensures)) i }))
     ∙ sym
     (all-kept (a .kind) (a .f)
-    (ap (λ (b : Bool). leb (a .f .source) 3 && b) (sym (c .before .before .before .before .before .before .codes-listed .ensures)) ∙ not-false _ (c .before .before .before .before .before .if1 .left))
-    (ap (leb (a .f .value)) (sym (c .before .before .before .before .greatest-value .ensures)) ∙ le-leb _ _ (c .before .before .if2 .left)))
+    (ap (λ (b : Bool). leb (a .f .source) 3 && b) (sym (c .before .before .before .before .before .codes-listed .ensures)) ∙ not-false _ (c .before .before .before .before .if1 .left))
+    (sym (c .before .before .before .fields-fit .ensures) ∙ not-false _ (c .before .before .if2 .left)))
 
 pub record-of-kind-spec : {M : Type 1} → statement M
 record-of-kind-spec =
@@ -50,7 +50,7 @@ record-of-kind-spec =
     (tie.spec
     codes-listed-requires
     returns
-    greatest-value-requires
+    fields-fit-requires
     returns-2
     fields-of-requires
     body-from-requires

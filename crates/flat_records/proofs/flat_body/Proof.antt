@@ -9,77 +9,77 @@ use Rattle.flat_records.proofs.flat_body.Tie as tie
 enum-known-body : tie.Need-enum-known-body
 enum-known-body c = search needs
 
-measured-requires : tie.Need-measured-requires
-measured-requires c κs = search needs
+with-count-requires : tie.Need-with-count-requires
+with-count-requires c κs = search needs
 
 enum-known-body-2 : tie.Need-enum-known-body-2
 enum-known-body-2 c = search needs
 
-valued-requires : tie.Need-valued-requires
-valued-requires c κs = search needs
+with-value-requires : tie.Need-with-value-requires
+with-value-requires c κs = search needs
 
 enum-known-body-3 : tie.Need-enum-known-body-3
 enum-known-body-3 c = search needs
 
-measured-requires-2 : tie.Need-measured-requires-2
-measured-requires-2 c κs = search needs
+with-count-requires-2 : tie.Need-with-count-requires-2
+with-count-requires-2 c κs = search needs
 
 enum-known-body-4 : tie.Need-enum-known-body-4
 enum-known-body-4 c = search needs
 
-measured-requires-3 : tie.Need-measured-requires-3
-measured-requires-3 c κs = search needs
+with-count-requires-3 : tie.Need-with-count-requires-3
+with-count-requires-3 c κs = search needs
 
 enum-known-body-5 : tie.Need-enum-known-body-5
 enum-known-body-5 c = search needs
 
-valued-requires-2 : tie.Need-valued-requires-2
-valued-requires-2 c κs = search needs
+with-value-requires-2 : tie.Need-with-value-requires-2
+with-value-requires-2 c κs = search needs
 
 enum-known-body-6 : tie.Need-enum-known-body-6
 enum-known-body-6 c = search needs
 
-valued-requires-3 : tie.Need-valued-requires-3
-valued-requires-3 c κs = search needs
+with-value-requires-3 : tie.Need-with-value-requires-3
+with-value-requires-3 c κs = search needs
 
 enum-known-body-7 : tie.Need-enum-known-body-7
 enum-known-body-7 c = search needs
 
-measured-requires-4 : tie.Need-measured-requires-4
-measured-requires-4 c κs = search needs
+with-count-requires-4 : tie.Need-with-count-requires-4
+with-count-requires-4 c κs = search needs
 
 enum-known-body-8 : tie.Need-enum-known-body-8
 enum-known-body-8 c = search needs
 
-measured-requires-5 : tie.Need-measured-requires-5
-measured-requires-5 c κs = search needs
+with-count-requires-5 : tie.Need-with-count-requires-5
+with-count-requires-5 c κs = search needs
 
 enum-known-body-9 : tie.Need-enum-known-body-9
 enum-known-body-9 c = search needs
 
-cast-valued : tie.Need-cast-valued
-cast-valued c = search needs
+cast-with-value : tie.Need-cast-with-value
+cast-with-value c = search needs
 
-valued-requires-4 : tie.Need-valued-requires-4
-valued-requires-4 c κs = search needs
+with-value-requires-4 : tie.Need-with-value-requires-4
+with-value-requires-4 c κs = search needs
 
 enum-known-body-10 : tie.Need-enum-known-body-10
 enum-known-body-10 c = search needs
 
-cast-valued-2 : tie.Need-cast-valued-2
-cast-valued-2 c = search needs
+cast-with-value-2 : tie.Need-cast-with-value-2
+cast-with-value-2 c = search needs
 
-valued-requires-5 : tie.Need-valued-requires-5
-valued-requires-5 c κs = search needs
+with-value-requires-5 : tie.Need-with-value-requires-5
+with-value-requires-5 c κs = search needs
 
 enum-known-body-11 : tie.Need-enum-known-body-11
 enum-known-body-11 c = search needs
 
-cast-valued-3 : tie.Need-cast-valued-3
-cast-valued-3 c = search needs
+cast-with-value-3 : tie.Need-cast-with-value-3
+cast-with-value-3 c = search needs
 
-valued-requires-6 : tie.Need-valued-requires-6
-valued-requires-6 c κs = search needs
+with-value-requires-6 : tie.Need-with-value-requires-6
+with-value-requires-6 c κs = search needs
 
 enum-known-body-12 : tie.Need-enum-known-body-12
 enum-known-body-12 c = search needs
@@ -111,45 +111,45 @@ part-requires-4 c κs = search needs
 returns : tie.Need-returns
 returns c =
     let g = c .before .before .before .body .given in
-    rw (g .1) (rw (toZ-ofZ {w = w16} {z = g .0 .1 .1 .0 .0} (search needs)) at (c .measured .ensures))
+    rw (g .1) (rw (toZ-ofZ {w = w16} {z = g .0 .1 .1 .0 .0} (search needs)) at (c .with-count .ensures))
 
 returns-2 : tie.Need-returns-2
-returns-2 c = rw (c .before .before .body2 .given .1) (c .valued .ensures)
+returns-2 c = rw (c .before .before .body2 .given .1) (c .with-value .ensures)
 
 returns-3 : tie.Need-returns-3
 returns-3 c =
     let g = c .before .before .before .body3 .given in
-    rw (g .1) (rw (toZ-ofZ {w = w16} {z = g .0 .1 .1 .0 .0} (search needs)) at (c .measured2 .ensures))
+    rw (g .1) (rw (toZ-ofZ {w = w16} {z = g .0 .1 .1 .0 .0} (search needs)) at (c .with-count2 .ensures))
 
 returns-4 : tie.Need-returns-4
 returns-4 c =
     let g = c .before .before .before .body4 .given in
-    rw (g .1) (rw (toZ-ofZ {w = w16} {z = g .0 .1 .1 .0 .0} (search needs)) at (c .measured3 .ensures))
+    rw (g .1) (rw (toZ-ofZ {w = w16} {z = g .0 .1 .1 .0 .0} (search needs)) at (c .with-count3 .ensures))
 
 returns-5 : tie.Need-returns-5
-returns-5 c = rw (c .before .before .body5 .given .1) (c .valued2 .ensures)
+returns-5 c = rw (c .before .before .body5 .given .1) (c .with-value2 .ensures)
 
 returns-6 : tie.Need-returns-6
-returns-6 c = rw (c .before .before .body6 .given .1) (c .valued3 .ensures)
+returns-6 c = rw (c .before .before .body6 .given .1) (c .with-value3 .ensures)
 
 returns-7 : tie.Need-returns-7
 returns-7 c =
     let g = c .before .before .before .body7 .given in
-    rw (g .1) (rw (toZ-ofZ {w = w16} {z = g .0 .1 .1 .1 .0 .0} (search needs)) at (c .measured4 .ensures))
+    rw (g .1) (rw (toZ-ofZ {w = w16} {z = g .0 .1 .1 .1 .0 .0} (search needs)) at (c .with-count4 .ensures))
 
 returns-8 : tie.Need-returns-8
 returns-8 c =
     let g = c .before .before .before .body8 .given in
-    rw (g .1) (rw (toZ-ofZ {w = w16} {z = g .0 .1 .1 .1 .0 .0} (search needs)) at (c .measured5 .ensures))
+    rw (g .1) (rw (toZ-ofZ {w = w16} {z = g .0 .1 .1 .1 .0 .0} (search needs)) at (c .with-count5 .ensures))
 
 returns-9 : tie.Need-returns-9
-returns-9 c = rw (c .before .before .body9 .given .1) (c .valued4 .ensures)
+returns-9 c = rw (c .before .before .body9 .given .1) (c .with-value4 .ensures)
 
 returns-10 : tie.Need-returns-10
-returns-10 c = rw (c .before .before .body10 .given .1) (c .valued5 .ensures)
+returns-10 c = rw (c .before .before .body10 .given .1) (c .with-value5 .ensures)
 
 returns-11 : tie.Need-returns-11
-returns-11 c = rw (c .before .before .body11 .given .1) (c .valued6 .ensures)
+returns-11 c = rw (c .before .before .body11 .given .1) (c .with-value6 .ensures)
 
 returns-12 : tie.Need-returns-12
 returns-12 c = rw (c .before .before .body12 .given .1) (c .part .ensures)
@@ -168,30 +168,30 @@ flat-body-spec =
     tie.close
     (tie.spec
     enum-known-body
-    measured-requires
+    with-count-requires
     enum-known-body-2
-    valued-requires
+    with-value-requires
     enum-known-body-3
-    measured-requires-2
+    with-count-requires-2
     enum-known-body-4
-    measured-requires-3
+    with-count-requires-3
     enum-known-body-5
-    valued-requires-2
+    with-value-requires-2
     enum-known-body-6
-    valued-requires-3
+    with-value-requires-3
     enum-known-body-7
-    measured-requires-4
+    with-count-requires-4
     enum-known-body-8
-    measured-requires-5
+    with-count-requires-5
     enum-known-body-9
-    cast-valued
-    valued-requires-4
+    cast-with-value
+    with-value-requires-4
     enum-known-body-10
-    cast-valued-2
-    valued-requires-5
+    cast-with-value-2
+    with-value-requires-5
     enum-known-body-11
-    cast-valued-3
-    valued-requires-6
+    cast-with-value-3
+    with-value-requires-6
     enum-known-body-12
     cast-part
     part-requires

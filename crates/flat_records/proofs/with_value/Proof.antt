@@ -1,8 +1,8 @@
 -- Each number by what its call ensures.
 -- Assumes nothing.
 use borrow.Author.Needs.{needs}
-use Rattle.flat_records.proofs.valued.Statement.{statement}
-use Rattle.flat_records.proofs.valued.Tie as tie
+use Rattle.flat_records.proofs.with_value.Statement.{statement}
+use Rattle.flat_records.proofs.with_value.Tie as tie
 
 status-number-requires : tie.Need-status-number-requires
 status-number-requires c κs = search needs
@@ -16,7 +16,7 @@ flag-number-requires c κs = search needs
 returns : tie.Need-returns
 returns c = rw (c .flag-number .ensures, c .before .category-number .ensures, c .before .before .status-number .ensures)
 
-pub valued-spec : {M : Type 1} → statement M
-valued-spec =
+pub with-value-spec : {M : Type 1} → statement M
+with-value-spec =
     tie.close
     (tie.spec status-number-requires category-number-requires flag-number-requires returns)

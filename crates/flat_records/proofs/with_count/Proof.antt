@@ -3,8 +3,8 @@
 use mir.Syntax.{w16}
 use mir.Facts.{toZ-ofZ}
 use borrow.Author.Needs.{needs}
-use Rattle.flat_records.proofs.measured.Statement.{statement}
-use Rattle.flat_records.proofs.measured.Tie as tie
+use Rattle.flat_records.proofs.with_count.Statement.{statement}
+use Rattle.flat_records.proofs.with_count.Tie as tie
 
 status-number-requires : tie.Need-status-number-requires
 status-number-requires c κs = search needs
@@ -28,8 +28,8 @@ returns c =
       c .before .before .before .status-number .ensures,
     )
 
-pub measured-spec : {M : Type 1} → statement M
-measured-spec =
+pub with-count-spec : {M : Type 1} → statement M
+with-count-spec =
     tie.close
     (tie.spec
     status-number-requires

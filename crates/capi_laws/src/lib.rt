@@ -1,0 +1,1 @@
+// What the functions that C calls tell, by the definitions of the library: theorems only, in specs/.
