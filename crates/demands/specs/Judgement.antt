@@ -6,7 +6,7 @@ use mathlib.Core.List.{List, [], _∷_}
 use mathlib.Core.Logic.{_↔_}
 use Prim.Native.Nat.{ℕ, _^_, _<_}
 use native.Mathlib.Omega.{arith}
-use Rattle.bits.specs.Layout.{clear, Clear}
+use Rattle.bits.specs.Layout.{clear}
 use Rattle.bits.specs.Laws.{clear-test}
 use Rattle.bits.specs.Parity.{odd}
 use Rattle.records.specs.Layouts.{wordLayout}
@@ -22,6 +22,8 @@ use Rattle.decode.specs.Rules.{Rules, rules}
 use Rattle.decode.specs.Decode.{verdict, recordOf, judged, decodeKind, decodeFound, decodeWith}
 use Rattle.decode.specs.declared.Decoded.{Decoded}
 use Rattle.decode.specs.declared.Verdict.{Verdict}
+use Rattle.demands.specs.Table.{ZeroBits}
+use Rattle.demands.specs.TableLemmas.{zero-bits}
 use Rattle.demands.specs.Allowed.{Asks, asks, Allowed}
 use Rattle.demands.specs.Order.{OfItsKind, fieldRules, wordRules}
 use Rattle.demands.specs.Tests as tests
@@ -74,14 +76,15 @@ module _ (a : Assignment) (w : ℕ) where
         (λ v. field-follows (λ j. asks j w .angle) _ (rules k w .angle) _ Refusal.AngleParity (t .angle)
         (λ n. no-rules decoded (Decoded.Accepted (recordOf k w)) (recordOf k w, refl)))))
 
-    kind-follows : Follows decoded (order.asks (OfItsKind a w (λ j. Clear (wordLayout j) w)) Refusal.ZeroBit ∷ fieldRules a w) (decodeKind k w)
+    kind-follows : Follows decoded (order.asks (OfItsKind a w (λ j. ZeroBits j w)) Refusal.ZeroBit ∷ fieldRules a w) (decodeKind k w)
     kind-follows =
-        let its = of-its-kind k own (λ (j : Kind). Clear (wordLayout j) w) in
+        let its = of-its-kind k own (λ (j : Kind). ZeroBits j w) in
         let test = clear-test (wordLayout k) w in
-        tested decoded (clear (wordLayout k) w) _ Refusal.ZeroBit (fieldRules a w) _ (λ e. its .0 (test .0 e)) (λ x. test .1 (its .1 x)) (λ x. fields-follow)
+        let same = zero-bits k w in
+        tested decoded (clear (wordLayout k) w) _ Refusal.ZeroBit (fieldRules a w) _ (λ e. its .0 (same .0 (test .0 e))) (λ x. test .1 (same .1 (its .1 x))) (λ x. fields-follow)
 
   found-follows : (l : Lookup) → a .kind (labelOf w) ≡ l
-      → Follows decoded (order.asks ((k : Kind) × (labelOf w ≡ a .label k)) Refusal.Label ∷ order.asks (OfItsKind a w (λ k. Clear (wordLayout k) w)) Refusal.ZeroBit ∷ fieldRules a w) (decodeFound l w)
+      → Follows decoded (order.asks ((k : Kind) × (labelOf w ≡ a .label k)) Refusal.Label ∷ order.asks (OfItsKind a w (λ k. ZeroBits k w)) Refusal.ZeroBit ∷ fieldRules a w) (decodeFound l w)
   found-follows (Lookup.Known k) f =
       let own : labelOf w ≡ a .label k = sym (a .only (labelOf w) k f) in
       kept-one decoded _ Refusal.Label _ _ (k, own) (kind-follows k own)

@@ -4,14 +4,13 @@ use mathlib.Core.Path.{_≡_}
 use mathlib.Core.List.{List, [], _∷_}
 use Prim.Native.Nat.{ℕ, _%_}
 use lib.Count.{ones}
-use Rattle.bits.specs.Layout.{Clear}
-use Rattle.records.specs.Layouts.{wordLayout}
 use Rattle.records.specs.declared.Kind.{Kind}
 use Rattle.refusals.specs.Order.{Rule}
 use Rattle.refusals.specs.Order as order
 use Rattle.refusals.specs.declared.Refusal.{Refusal}
 use Rattle.labels.specs.Label.{labelOf}
 use Rattle.labels.specs.Assignment.{Assignment}
+use Rattle.demands.specs.Table.{ZeroBits}
 use Rattle.demands.specs.Allowed.{Asks, asks}
 
 -- what holds of the kind that the word's label stands for
@@ -32,5 +31,5 @@ abbrev pub wordRules : Assignment → ℕ → List (Rule Refusal)
 wordRules a w =
     order.asks (ones w % 2 ≡ 1) Refusal.Parity
     ∷ order.asks ((k : Kind) × (labelOf w ≡ a .label k)) Refusal.Label
-    ∷ order.asks (OfItsKind a w (λ k. Clear (wordLayout k) w)) Refusal.ZeroBit
+    ∷ order.asks (OfItsKind a w (λ k. ZeroBits k w)) Refusal.ZeroBit
     ∷ fieldRules a w

@@ -1,29 +1,28 @@
 -- Each test that decoding makes says just what the layouts ask.
 -- Assumes nothing.
-use mathlib.Core.Path.{_≡_, refl, sym, ap, ap₂, _∙_}
+use mathlib.Core.Path.{_≡_, refl, sym, ap, ap₂, subst, _∙_}
 use mathlib.Core.Bool.{Bool, true, false, not, _&&_, and-true}
 use mathlib.Core.Logic.{_↔_, _≢_}
-use Prim.Native.Nat.{ℕ, _+_, _-_, _*_, _/_, _%_, _^_, _<_, _≤_}
-use native.Mathlib.Nat.{mod-lt, lt-of-lt-of-le}
+use Prim.Native.Nat.{ℕ, zero, suc, _+_, _-_, _*_, _/_, _%_, _^_, _<_, _≤_}
+use native.Mathlib.Nat.{lt-of-lt-of-le}
 use native.Mathlib.Omega.{arith}
 use borrow.Author.Tests.{eq-eqb, ne-eqb, eqb-true, eqb-false, lt-ltb, ltb-true, le-leb, leb-true, not-true}
 use lib.Count.{ones, onesIn}
-use lib.Dec.{eqb, leb, ltb, lit≤}
-use lib.Pow.{pow-pos}
+use lib.Dec.{eqb, leb, ltb, lit<, lit≤}
 use Rattle.bits.specs.Fields.{bits, digits}
 use Rattle.bits.specs.Laws.{both-true}
 use Rattle.bits.specs.Parity.{odd, ones-in}
-use Rattle.codes.specs.Codes.{markerOf, markerCode, markerListed, marker-code, decimalListed}
-use Rattle.frequencies.specs.Frequencies.{legalFrequency, tensListed, tens-le, mls-range}
+use Rattle.codes.specs.Codes.{markerOf, markerListed, marker-code, decimalCode, decimalListed}
+use Rattle.frequencies.specs.Frequencies.{mlsTens, legalFrequency, mls-range}
 use Rattle.frequencies.specs.declared.Band.{Band}
 use Rattle.records.specs.declared.Kind.{Kind}
 use Rattle.codes.specs.declared.Marker.{Marker}
+use Rattle.codes.specs.declared.Status.{Status}
 use Rattle.decode.specs.Rules.{Rules, rules, frequencyIn}
 use Rattle.roundtrip.specs.Forth.{marker-listed}
+use Rattle.demands.specs.Holds.{bit, sum, number, DecimalStatus, MarkerIs, SentAs, MlsIs}
+use Rattle.demands.specs.HoldsLemmas.{sum-digits, field-lt, status-bits, marker-is, decimal-only, tens-sent, never-two, mls-only, mls-holds}
 use Rattle.demands.specs.Allowed.{DecimalDigits, asks}
-
-field-lt : (o n w : ℕ) → digits o n w < 2 ^ n
-field-lt o n w = mod-lt (w / 2 ^ o) (pow-pos n)
 
 -- a test that always passes
 pub always : (true ≡ true) ↔ Unit {0}
@@ -42,38 +41,66 @@ equal-test n m = (eqb-true n m, eq-eqb n m)
 pub at-most-test : (n m : ℕ) → (leb n m ≡ true) ↔ (n ≤ m)
 at-most-test n m = (leb-true n m, le-leb n m)
 
-marker-test : (c : ℕ) → (markerListed c ≡ true) ↔ ((m : Marker) × (c ≡ markerCode m))
-marker-test c = (λ e. (markerOf c, sym (marker-code c e)), λ s. ap markerListed (s .1) ∙ marker-listed (s .0))
+pub both-test : {a b : Bool} {P Q : Type 0} → (a ≡ true) ↔ P → (b ≡ true) ↔ Q → ((a && b) ≡ true) ↔ (P × Q)
+both-test {a} {b} p q = (λ e. let c = both-true a b e in (p .0 (c .0), q .0 (c .1)), λ h. ap₂ _&&_ (p .1 (h .0)) (q .1 (h .1)))
 
-digits-test : (w : ℕ) → ((leb (bits 15 18 w) 9 && (leb (bits 19 22 w) 9 && leb (bits 23 26 w) 9)) ≡ true) ↔ DecimalDigits w
-digits-test w = (
-  λ e.
-      let b = both-true (leb (bits 15 18 w) 9) _ e in
-      let d = both-true (leb (bits 19 22 w) 9) (leb (bits 23 26 w) 9) (b .1) in
-      (leb-true (bits 15 18 w) 9 (b .0), leb-true (bits 19 22 w) 9 (d .0), leb-true (bits 23 26 w) 9 (d .1)),
-  λ h. ap₂ _&&_ (le-leb (bits 15 18 w) 9 (h .0)) (ap₂ _&&_ (le-leb (bits 19 22 w) 9 (h .1)) (le-leb (bits 23 26 w) 9 (h .2))),
+marker-test : (w : ℕ) → (markerListed (bits 11 13 w) ≡ true) ↔ ((m : Marker) × MarkerIs m w)
+marker-test w = (
+  λ e. let m : Marker = markerOf (bits 11 13 w) in (m, marker-is m w .1 (marker-code (bits 11 13 w) e)),
+  λ s. ap markerListed (sym (marker-is (s .0) w .0 (s .1))) ∙ marker-listed (s .0),
 )
 
-status-test : (w : ℕ) → (decimalListed (bits 30 31 w) ≡ true) ↔ (bits 30 31 w ≢ 3)
+-- the four digits, as the test reads them and as the statement does
+at-most-9 : (o w : ℕ) → (leb (digits o 4 w) 9 ≡ true) ↔ (sum (suc o) 4 w ≤ 9)
+at-most-9 o w = rw (sum-digits o 4 w) (at-most-test (digits o 4 w) 9)
+
+digits-test : (w : ℕ) → ((leb (bits 15 18 w) 9 && (leb (bits 19 22 w) 9 && leb (bits 23 26 w) 9)) ≡ true) ↔ DecimalDigits w
+digits-test w =
+    let t = both-test (at-most-9 14 w) (both-test (at-most-9 18 w) (at-most-9 22 w)) in
+    (λ e. let d = t .0 e in (d .0, d .1 .0, d .1 .1), λ d. t .1 (d .0, (d .1, d .2)))
+
+decimal-listed : (s : Status) (w : ℕ) → DecimalStatus s w → decimalListed (decimalCode s) ≡ true
+decimal-listed Status.Failure w h = absurd h
+decimal-listed Status.NoData w h = refl
+decimal-listed Status.Test w h = refl
+decimal-listed Status.Ready w h = refl
+
+decimal-found : (w c : ℕ) → c ≡ bits 30 31 w → decimalListed c ≡ true → (s : Status) × DecimalStatus s w
+decimal-found w zero e h = (Status.Ready, status-bits 0 0 w (lit< tt) (lit< tt) .1 e)
+decimal-found w (suc zero) e h = (Status.NoData, status-bits 1 0 w (lit< tt) (lit< tt) .1 e)
+decimal-found w (suc (suc zero)) e h = (Status.Test, status-bits 0 1 w (lit< tt) (lit< tt) .1 e)
+decimal-found w (suc (suc (suc c))) e h = absurd (omega (arith, ltb-true (suc (suc (suc c))) 3 h))
+
+status-test : (w : ℕ) → (decimalListed (bits 30 31 w) ≡ true) ↔ ((s : Status) × DecimalStatus s w)
 status-test w = (
-  λ e q. let h : bits 30 31 w < 3 = ltb-true (bits 30 31 w) 3 e in omega arith,
-  λ n. lt-ltb (bits 30 31 w) 3 (omega (arith, field-lt 29 2 w)),
+  λ e. decimal-found w (bits 30 31 w) refl e,
+  λ h. ap decimalListed (sym (decimal-only (h .0) w (h .1))) ∙ decimal-listed (h .0) w (h .1),
 )
 
 unequal-test : (n m : ℕ) → (not (eqb n m) ≡ true) ↔ (n ≢ m)
 unequal-test n m = (λ e. eqb-false n m (not-true (eqb n m) e), λ e. ap not (ne-eqb n m e))
 
-vhf-codes : (w : ℕ) → ((decimalListed (bits 30 31 w) && true) ≡ true) ↔ (bits 30 31 w ≢ 3)
+tens-test : (w : ℕ) → (not (eqb (bits 27 29 w) 2) ≡ true) ↔ ((tens : ℕ) × SentAs tens (number 27 29 w))
+tens-test w =
+    rw (sum-digits 26 3 w) (
+      λ e. (mlsTens (bits 27 29 w), tens-sent (bits 27 29 w) (field-lt 26 3 w) (unequal-test (bits 27 29 w) 2 .0 e)),
+      λ h. unequal-test (bits 27 29 w) 2 .1 (never-two (h .0) (bits 27 29 w) (h .1)),
+    )
+
+vhf-codes : (w : ℕ) → ((decimalListed (bits 30 31 w) && true) ≡ true) ↔ ((s : Status) × DecimalStatus s w)
 vhf-codes w =
     let t = and-true (decimalListed (bits 30 31 w)) in
     (λ e. status-test w .0 (sym t ∙ e), λ n. t ∙ status-test w .1 n)
 
-mls-codes : (w : ℕ) → ((decimalListed (bits 30 31 w) && not (eqb (bits 27 29 w) 2)) ≡ true) ↔ ((bits 30 31 w ≢ 3) × (bits 27 29 w ≢ 2))
-mls-codes w =
-    let u = unequal-test (bits 27 29 w) 2 in (
-      λ e. let b = both-true (decimalListed (bits 30 31 w)) (not (eqb (bits 27 29 w) 2)) e in (status-test w .0 (b .0), u .0 (b .1)),
-      λ h. ap₂ _&&_ (status-test w .1 (h .0)) (u .1 (h .1)),
-    )
+-- bits 31 and 30 of a part
+part-test : (p q w : ℕ) → p < 2 → q < 2 → (eqb (bits 30 31 w) (p + 2 * q) ≡ true) ↔ ((bit 31 w ≡ q) × (bit 30 w ≡ p))
+part-test p q w hp hq =
+    let t = equal-test (bits 30 31 w) (p + 2 * q) in
+    let b = status-bits p q w hp hq in
+    (λ e. let c = b .1 (sym (t .0 e)) in (c .1 .0, c .0), λ h. t .1 (sym (b .0 (h .1, (h .0, tt)))))
+
+digits-in : (w : ℕ) → DecimalDigits w → (bits 15 18 w ≤ 9) × (bits 19 22 w ≤ 9) × (bits 23 26 w ≤ 9)
+digits-in w d = (leb-true _ 9 (at-most-9 14 w .1 (d .0)), leb-true _ 9 (at-most-9 18 w .1 (d .1)), leb-true _ 9 (at-most-9 22 w .1 (d .2)))
 
 -- with decimal digits a VOR or ILS frequency is legal
 vhf-bound : (h s u t : ℕ) → h ≤ 9 → s ≤ 9 → u ≤ 9 → t < 8 → ((t * 10 + u) * 10 + s) * 10 + h ≤ 7999
@@ -81,7 +108,8 @@ vhf-bound h s u t a b c d = omega arith
 
 vhf-value : (w : ℕ) → DecimalDigits w → (legalFrequency Band.Vor (frequencyIn Band.Vor w) ≡ true) ↔ Unit {0}
 vhf-value w d =
-    let b = vhf-bound (bits 15 18 w) (bits 19 22 w) (bits 23 26 w) (bits 27 29 w) (d .0) (d .1) (d .2) (field-lt 26 3 w) in (
+    let n = digits-in w d in
+    let b = vhf-bound (bits 15 18 w) (bits 19 22 w) (bits 23 26 w) (bits 27 29 w) (n .0) (n .1) (n .2) (field-lt 26 3 w) in (
       λ e. tt,
       λ u. ap₂ _&&_ (le-leb 10000 (frequencyIn Band.Vor w) (omega arith)) (le-leb (frequencyIn Band.Vor w) 17999 (omega arith)),
     )
@@ -100,6 +128,26 @@ mls-value f = (
     channel : (f : ℕ) → 503100 ≤ f → f ≤ 509070 → f % 30 ≡ 0 → ((f - 503100) / 30 ≤ 199) × (f ≡ 503100 + 30 * ((f - 503100) / 30))
     channel f a b c = (omega arith, omega arith)
 
+-- the tens code of a channel is never 2
+channel-tens : (h s u t k : ℕ) → h ≤ 9 → s ≤ 9 → u ≤ 9 → 500000 + (((t * 10 + u) * 10 + s) * 10 + h) ≡ 503100 + 30 * k → 3 ≤ t
+channel-tens h s u t k a b c e = omega arith
+
+not-two : (c : ℕ) → 3 ≤ mlsTens c → c ≢ 2
+not-two c h e = let z : 3 ≤ 2 = subst (λ (x : ℕ). 3 ≤ mlsTens x) e h in omega arith
+
+channel-test : (w : ℕ) → DecimalDigits w → (legalFrequency Band.Mls (frequencyIn Band.Mls w) ≡ true) ↔ ((k : ℕ) × (k ≤ 199) × MlsIs (503100 + 30 * k) w)
+channel-test w d =
+    let n = digits-in w d in
+    let t = mls-value (frequencyIn Band.Mls w) in (
+      λ e.
+          let c = t .0 e in
+          let k : ℕ = c .0 in
+          let l = channel-tens (bits 15 18 w) (bits 19 22 w) (bits 23 26 w) (mlsTens (bits 27 29 w)) k (n .0) (n .1) (n .2) (c .2) in
+          let s = tens-test w .0 (unequal-test (bits 27 29 w) 2 .1 (not-two (bits 27 29 w) l)) in
+          (k, c .1, subst (λ (f : ℕ). MlsIs f w) (c .2) (mls-holds w (s .0) (s .1))),
+      λ h. t .1 (h .0, h .1, sym (mls-only (503100 + 30 * h .0) w (h .2))),
+    )
+
 -- the four tests of a kind
 pub record Tested (k : Kind) (w : ℕ) : Type 0 where
   pub digits : (rules k w .digits ≡ true) ↔ asks k w .digits
@@ -108,23 +156,23 @@ pub record Tested (k : Kind) (w : ℕ) : Type 0 where
   pub angle : (rules k w .angle ≡ true) ↔ asks k w .angle
 
 pub tested : (k : Kind) (w : ℕ) → Tested k w
-tested Kind.VorAzimuth w = record { digits = always; codes = marker-test (bits 11 13 w); value = λ d. always; angle = always }
+tested Kind.VorAzimuth w = record { digits = always; codes = marker-test w; value = λ d. always; angle = always }
 tested Kind.VorFrequency w = record { digits = digits-test w; codes = vhf-codes w; value = vhf-value w; angle = always }
 tested Kind.IlsCourse w = record { digits = always; codes = always; value = λ d. always; angle = always }
 tested Kind.IlsGlide w = record { digits = always; codes = always; value = λ d. always; angle = always }
 tested Kind.IlsFrequency w = record { digits = digits-test w; codes = vhf-codes w; value = vhf-value w; angle = always }
-tested Kind.MlsFrequency w = record { digits = digits-test w; codes = mls-codes w; value = λ d. mls-value (frequencyIn Band.Mls w); angle = always }
+tested Kind.MlsFrequency w = record { digits = digits-test w; codes = both-test (status-test w) (tens-test w); value = channel-test w; angle = always }
 tested Kind.MlsAzimuthDeviation w = record { digits = always; codes = always; value = λ d. always; angle = always }
 tested Kind.MlsGlideDeviation w = record { digits = always; codes = always; value = λ d. always; angle = always }
-tested Kind.SelectedAzimuth w = record { digits = always; codes = always; value = λ d. at-most-test (bits 20 28 w) 359; angle = always }
+tested Kind.SelectedAzimuth w = record { digits = always; codes = always; value = λ d. rw (sum-digits 19 9 w) (at-most-test (bits 20 28 w) 359); angle = always }
 tested Kind.GreatestGlideAngle w = record {
   digits = always;
   codes = always;
   value = λ d. always;
-  angle = odd-test (bits 20 28 w) (lt-of-lt-of-le (field-lt 19 9 w) (lit≤ tt));
+  angle = rw (sum-digits 19 9 w) (odd-test (bits 20 28 w) (lt-of-lt-of-le (field-lt 19 9 w) (lit≤ tt)));
 }
 tested Kind.SelectedGlideAngle w = record { digits = always; codes = always; value = λ d. always; angle = always }
-tested Kind.Part1 w = record { digits = always; codes = equal-test (bits 30 31 w) 0; value = λ d. always; angle = always }
-tested Kind.Part2 w = record { digits = always; codes = equal-test (bits 30 31 w) 1; value = λ d. always; angle = always }
-tested Kind.Part3 w = record { digits = always; codes = equal-test (bits 30 31 w) 2; value = λ d. always; angle = always }
-tested Kind.Part4 w = record { digits = always; codes = equal-test (bits 30 31 w) 3; value = λ d. always; angle = always }
+tested Kind.Part1 w = record { digits = always; codes = part-test 0 0 w (lit< tt) (lit< tt); value = λ d. always; angle = always }
+tested Kind.Part2 w = record { digits = always; codes = part-test 1 0 w (lit< tt) (lit< tt); value = λ d. always; angle = always }
+tested Kind.Part3 w = record { digits = always; codes = part-test 0 1 w (lit< tt) (lit< tt); value = λ d. always; angle = always }
+tested Kind.Part4 w = record { digits = always; codes = part-test 1 1 w (lit< tt) (lit< tt); value = λ d. always; angle = always }

@@ -9,7 +9,6 @@ use borrow.Author.Tests.{le-leb, leb-true, lt-ltb, ltb-true}
 use lib.Dec.{T, leb, ltb, le→leb, leb→le}
 use lib.IntN.{ℤ, pos, negsuc}
 use lib.Signed.{mag, leZ, _≤ℤ_}
-use Rattle.bits.specs.Laws.{both-true}
 use Rattle.codes.specs.Codes.{decimalCode, decimalListed}
 use Rattle.records.specs.declared.Body.{Body}
 use Rattle.records.specs.declared.Record.{Record}
@@ -17,7 +16,7 @@ use Rattle.codes.specs.declared.Status.{Status}
 use Rattle.codes.specs.declared.Status.the-variants.{Failure, NoData, Test, Ready}
 use Rattle.encode.specs.Encode.{codesListed, valuesLegal}
 use Rattle.demands.specs.Legal.{CodesOf, ValuesOf, Vhf, LegalCodes}
-use Rattle.demands.specs.Tests.{always, at-most-test, mls-value}
+use Rattle.demands.specs.Tests.{always, both-test, at-most-test, mls-value}
 
 abbrev isFailure : Status → ℕ
 isFailure Failure = 1
@@ -44,9 +43,6 @@ range-test n (negsuc k) = (
   λ e. (record { le = le→leb k n (omega (arith, ltb-true k (suc n) e)) }, record { le = tt }),
   λ h. lt-ltb k (suc n) (omega (arith, leb→le k n (h .0 .le))),
 )
-
-both-test : {a b : Bool} {P Q : Type 0} → (a ≡ true) ↔ P → (b ≡ true) ↔ Q → ((a && b) ≡ true) ↔ (P × Q)
-both-test {a} {b} p q = (λ e. let c = both-true a b e in (p .0 (c .0), q .0 (c .1)), λ h. ap₂ _&&_ (p .1 (h .0)) (q .1 (h .1)))
 
 vhf-test : (f : ℕ) → ((leb 10000 f && leb f 17999) ≡ true) ↔ Vhf f
 vhf-test f = both-test (at-most-test 10000 f) (at-most-test f 17999)
