@@ -2,21 +2,21 @@
 -- Assumes nothing.
 use mathlib.Core.Bool.{Bool, cond, _&&_}
 use lib.Dec.{eqb}
+use Rattle.records.specs.All.{placeOf}
 use Rattle.records.specs.Kinds.{kindOf}
 use Rattle.records.specs.declared.Body.{Body}
 use Rattle.records.specs.declared.Kind.{Kind}
 use Rattle.records.specs.declared.Record.{Record}
 use Rattle.refusals.specs.declared.Refusal.{Refusal}
-use Rattle.labels.specs.Table.{labelNumber}
 use Rattle.readings.specs.Readings.{readingOf}
 use Rattle.readings.specs.declared.Reading.{Reading}
 use Rattle.readings.specs.declared.Shown.{Shown}
 use Rattle.chart.specs.declared.Difference.{Difference}
 use Rattle.chart.specs.declared.Charted.{Charted}
 
--- two kinds are the same: they have one label
+-- two kinds are the same: they have one place in document 01's table
 abbrev pub isKind : Kind → Kind → Bool
-isKind kind wanted = eqb (labelNumber kind) (labelNumber wanted)
+isKind kind wanted = eqb (placeOf kind) (placeOf wanted)
 
 -- the number of a reading in depth difference
 abbrev pub differenceIn : Reading → Difference

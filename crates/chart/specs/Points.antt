@@ -10,6 +10,7 @@ use borrow.Author.Tests.{eqb-true, eq-eqb}
 use lib.Dec.{eqb}
 use lib.Ieee.{Float}
 use Rattle.bits.specs.Laws.{both-true}
+use Rattle.records.specs.All.{placeOf, one-place}
 use Rattle.records.specs.Kinds.{kindOf}
 use Rattle.records.specs.declared.Body.{Body}
 use Rattle.records.specs.declared.CourseCount.{CourseCount}
@@ -19,8 +20,6 @@ use Rattle.records.specs.declared.Record.{Record}
 use Rattle.refusals.specs.Order.{Rule, asks, Answers, Follows, no-rules, kept-one, broken-one, tested, reworded}
 use Rattle.refusals.specs.declared.Refusal.{Refusal}
 use Rattle.codes.specs.declared.Status.{Status}
-use Rattle.labels.specs.Table.{labelNumber, findKind, rows, found}
-use Rattle.labels.specs.declared.Lookup.{Lookup}
 use Rattle.doubles.specs.Doubles.{courseOf, glideOf}
 use Rattle.readings.specs.Readings.{readingOf, shownUnder}
 use Rattle.readings.specs.Meaning.{HasReading, Holds, IsReading, Shows, CountFits, reading-right}
@@ -62,14 +61,13 @@ PointOf first second answer =
     (p : ChartPoint) → answer ≡ Charted.Point p
     → IsReading (first .body) (Reading.DepthDifference (p .course)) × IsReading (second .body) (Reading.DepthDifference (p .glide))
 
--- ---- kinds of one label are one kind
+-- ---- kinds of one place are one kind
 
 pub same-kind : (j k : Kind) → isKind j k ≡ true → j ≡ k
-same-kind j k e =
-    let q : Lookup.Known j ≡ Lookup.Known k = sym (found j) ∙ ap (findKind rows) (eqb-true (labelNumber j) (labelNumber k) e) ∙ found k in cc
+same-kind j k e = one-place j k (eqb-true (placeOf j) (placeOf k) e)
 
 pub kind-same : (j k : Kind) → j ≡ k → isKind j k ≡ true
-kind-same j k e = eq-eqb (labelNumber j) (labelNumber k) (ap labelNumber e)
+kind-same j k e = eq-eqb (placeOf j) (placeOf k) (ap placeOf e)
 
 -- ---- a course and a glide have a depth difference exactly when they have a reading
 

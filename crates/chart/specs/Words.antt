@@ -7,7 +7,6 @@ use mathlib.Core.Logic.{_⊎_, inl, inr, _↔_}
 use Prim.Native.Nat.{ℕ, zero, suc, _/_, _^_, _<_}
 use native.Mathlib.Nat.{mod-lt, lt-of-lt-of-le}
 use native.Mathlib.Omega.{arith}
-use borrow.Author.Tests.{eq-eqb}
 use lib.Dec.{lit≤, lit<}
 use lib.IntN.{ℤ}
 use lib.Ieee.{Float}
@@ -24,21 +23,21 @@ use Rattle.records.specs.declared.Record.{Record}
 use Rattle.refusals.specs.Order.{Rule, asks, Follows, kept-first, broken-first}
 use Rattle.refusals.specs.declared.Refusal.{Refusal}
 use Rattle.labels.specs.Label.{labelOf}
-use Rattle.records.specs.All.{kinds}
-use Rattle.labels.specs.Table.{labelNumber, rows, findKind, only}
+use Rattle.records.specs.All.{kinds, agree}
+use Rattle.labels.specs.Table.{labelNumber, rows, findKind, found, only}
 use Rattle.labels.specs.declared.Lookup.{Lookup}
 use Rattle.decode.specs.Rules.{rules, bodyOf}
-use Rattle.decode.specs.Decode.{verdict, judged, recordOf, decodeFound, decodeOf}
+use Rattle.decode.specs.Decode.{judgement, judged, recordOf, decodeFound, decodeOf}
 use Rattle.decode.specs.declared.Decoded.{Decoded}
-use Rattle.decode.specs.declared.Verdict.{Verdict}
+use Rattle.decode.specs.declared.Judgement.{Judgement}
 use Rattle.doubles.specs.Doubles.{courseOf, glideOf}
 use Rattle.doubles.specs.Exact.{IsCount}
 use Rattle.doubles.specs.Nearest.{IsNearest}
 use Rattle.readings.specs.Readings.{courseReading, glideReading, readingOf, shownUnder}
 use Rattle.readings.specs.Meaning.{HasReading, IsReading, CountFits}
 use Rattle.readings.specs.declared.Reading.{Reading}
-use Rattle.chart.specs.Chart.{isKind, chartOf}
-use Rattle.chart.specs.Points.{charted, same-kind, chart-follows, chart-right}
+use Rattle.chart.specs.Chart.{chartOf}
+use Rattle.chart.specs.Points.{charted, chart-follows, chart-right}
 use Rattle.chart.specs.declared.ChartPoint.{ChartPoint}
 use Rattle.chart.specs.declared.Charted.{Charted}
 
@@ -79,9 +78,9 @@ PointOfWords first second answer =
 
 -- ---- an accepted word is of the kind of its label, and its record is the one that its bits hold
 
-kept-record : (c : Bool) (v : Verdict) (q r : Record) → cond c (judged v q) (Decoded.Refused Refusal.ZeroBit) ≡ Decoded.Accepted r → r ≡ q
-kept-record true Verdict.Kept q r e = cc
-kept-record true (Verdict.Broken f) q r e = cc
+kept-record : (c : Bool) (v : Judgement) (q r : Record) → cond c (judged v q) (Decoded.Refused Refusal.ZeroBit) ≡ Decoded.Accepted r → r ≡ q
+kept-record true Judgement.Kept q r e = cc
+kept-record true (Judgement.Broken f) q r e = cc
 kept-record false v q r e = cc
 
 record Read (w : ℕ) (r : Record) : Type 0 where
@@ -102,34 +101,20 @@ read w r = go (odd w) (findKind rows (labelOf w)) refl
     go true (Lookup.Known k) q e = record {
       kind = k;
       label = sym (only kinds (labelOf w) k q);
-      is = kept-record (clear (wordLayout k) w) (verdict (rules k w)) (recordOf k w) r e;
+      is = kept-record (clear (wordLayout k) w) (judgement (rules k w)) (recordOf k w) r e;
     }
     go true Lookup.Unknown q e = absurd (clash (Decoded.Refused Refusal.Label) Refusal.Label r refl e)
     go false l q e = absurd (clash (Decoded.Refused Refusal.Parity) Refusal.Parity r refl e)
 
 kind-of-body : (k : Kind) (w : ℕ) → kindOf (bodyOf k w) ≡ k
-kind-of-body Kind.VorAzimuth w = refl
-kind-of-body Kind.VorFrequency w = refl
-kind-of-body Kind.IlsCourse w = refl
-kind-of-body Kind.IlsGlide w = refl
-kind-of-body Kind.IlsFrequency w = refl
-kind-of-body Kind.MlsFrequency w = refl
-kind-of-body Kind.MlsAzimuthDeviation w = refl
-kind-of-body Kind.MlsGlideDeviation w = refl
-kind-of-body Kind.SelectedAzimuth w = refl
-kind-of-body Kind.GreatestGlideAngle w = refl
-kind-of-body Kind.SelectedGlideAngle w = refl
-kind-of-body Kind.Part1 w = refl
-kind-of-body Kind.Part2 w = refl
-kind-of-body Kind.Part3 w = refl
-kind-of-body Kind.Part4 w = refl
+kind-of-body k w = agree (λ k. kindOf (bodyOf k w)) (λ k. k) refl k
 
 module _ (w : ℕ) (r : Record) (d : Read w r) where
   of-kind : kindOf (r .body) ≡ d .kind
   of-kind = ap (λ (q : Record). kindOf (q .body)) (d .is) ∙ kind-of-body (d .kind) w
 
   kind-is : (k : Kind) → labelOf w ≡ labelNumber k → d .kind ≡ k
-  kind-is k e = same-kind (d .kind) k (eq-eqb (labelNumber (d .kind)) (labelNumber k) (sym (d .label) ∙ e))
+  kind-is k e = let q : Lookup.Known (d .kind) ≡ Lookup.Known k = sym (found (d .kind)) ∙ ap (findKind rows) (sym (d .label) ∙ e) ∙ found k in cc
 
   labelled : (k : Kind) → (labelOf w ≡ labelNumber k) ↔ (kindOf (r .body) ≡ k)
   labelled k = (λ e. of-kind ∙ kind-is k e, λ e. d .label ∙ ap labelNumber (sym of-kind ∙ e))

@@ -35,9 +35,7 @@ enum Difference {
 fn is_kind(kind: Kind, wanted: Kind) -> bool
     ensures { λ r. ⌜ r ≡ isKind kind wanted ⌝ }
 {
-    let row = labels::row_of(kind);
-    let wanted_row = labels::row_of(wanted);
-    row.label == wanted_row.label
+    records::place_of(kind) == records::place_of(wanted)
 }
 
 // The number of a reading in depth difference.

@@ -3,8 +3,8 @@
 use Prim.Native.Nat.{ℕ}
 use Rattle.records.specs.declared.Kind.{Kind}
 use Rattle.decode.specs.Rules.{rules}
-use Rattle.decode.specs.Decode.{verdict, recordOf, judged}
+use Rattle.decode.specs.Decode.{judgement, recordOf, judged}
 use Rattle.decode.specs.declared.Decoded.{Decoded}
 
 abbrev pub decodeClear : Kind → ℕ → Decoded
-decodeClear k w = judged (verdict (rules k w)) (recordOf k w)
+decodeClear k w = judged (judgement (rules k w)) (recordOf k w)

@@ -16,7 +16,7 @@ ghost use lib.Dec.{eqb};
 ghost use Rattle.bits.specs.Fields.{bits};
 ghost use Rattle.codes.specs.Codes.{binaryStatus, decimalStatus};
 ghost use Rattle.decode.specs.Rules.{frequencyIn, decimal};
-ghost use Rattle.decode.specs.Decode.{verdict, judged, decodeKind, decodeOf};
+ghost use Rattle.decode.specs.Decode.{judgement, judged, decodeKind, decodeAs, decodeOf};
 ghost use Rattle.decode.specs.Kinds.{decodeClear};
 
 // What a word is: a record, or refused.
@@ -26,18 +26,18 @@ pub enum Decoded {
 }
 
 // Whether a word of a known kind keeps its kind's rules, or the first that it breaks.
-pub enum Verdict {
+pub enum Judgement {
     Kept,
     Broken(Refusal),
 }
 
-fn kept_if(test: bool, refusal: Refusal) -> Verdict
-    ensures { λ r. ⌜ r ≡ cond test Verdict.Kept (Verdict.Broken refusal) ⌝ }
+fn kept_if(test: bool, refusal: Refusal) -> Judgement
+    ensures { λ r. ⌜ r ≡ cond test Judgement.Kept (Judgement.Broken refusal) ⌝ }
 {
     if test {
-        Verdict::Kept
+        Judgement::Kept
     } else {
-        Verdict::Broken(refusal)
+        Judgement::Broken(refusal)
     }
 }
 
@@ -52,17 +52,17 @@ fn frequency_in(band: Band, word: u32) -> u32
 }
 
 // The rules of a frequency word.
-fn frequency_verdict(band: Band, word: u32) -> Verdict
-    ensures { λ r. ⌜ r ≡ verdict (decimal band word) ⌝ }
+fn frequency_judgement(band: Band, word: u32) -> Judgement
+    ensures { λ r. ⌜ r ≡ judgement (decimal band word) ⌝ }
 {
     let digits = (word / 16384 % 16 <= 9)
         & ((word / 262144 % 16 <= 9) & (word / 4194304 % 16 <= 9));
     if !digits {
-        return Verdict::Broken(Refusal::Digit);
+        return Judgement::Broken(Refusal::Digit);
     }
     let codes = (word / 536870912 % 4 < 3) & frequencies::is_tens(band, word / 67108864 % 8);
     if !codes {
-        return Verdict::Broken(Refusal::Code);
+        return Judgement::Broken(Refusal::Code);
     }
     kept_if(
         frequencies::is_legal_frequency(band, frequency_in(band, word)),
@@ -71,8 +71,8 @@ fn frequency_verdict(band: Band, word: u32) -> Verdict
 }
 
 // The rule of a part: bits 30 and 31 are the part's code.
-fn part_verdict(code: u32, word: u32) -> Verdict
-    ensures { λ r. ⌜ r ≡ cond (eqb (bits 30 31 word) code) Verdict.Kept (Verdict.Broken Refusal.Code) ⌝ }
+fn part_judgement(code: u32, word: u32) -> Judgement
+    ensures { λ r. ⌜ r ≡ cond (eqb (bits 30 31 word) code) Judgement.Kept (Judgement.Broken Refusal.Code) ⌝ }
 {
     kept_if(word / 536870912 % 4 == code, Refusal::Code)
 }
@@ -132,15 +132,15 @@ fn source_in(word: u32) -> u8
 }
 
 // The record of this body and the word's source, or the refusal for the rule that the word breaks.
-fn judged(verdict: Verdict, word: u32, body: Body) -> Decoded
-    ensures { λ r. ⌜ r ≡ judged verdict (record { source = bits 9 10 word; body = body }) ⌝ }
+fn judged(judgement: Judgement, word: u32, body: Body) -> Decoded
+    ensures { λ r. ⌜ r ≡ judged judgement (record { source = bits 9 10 word; body = body }) ⌝ }
 {
-    match verdict {
-        Verdict::Kept => Decoded::Accepted(Record {
+    match judgement {
+        Judgement::Kept => Decoded::Accepted(Record {
             source: source_in(word),
             body: body,
         }),
-        Verdict::Broken(refusal) => Decoded::Refused(refusal),
+        Judgement::Broken(refusal) => Decoded::Refused(refusal),
     }
 }
 
@@ -164,7 +164,7 @@ fn vor_frequency(word: u32) -> Decoded
     ensures { λ r. ⌜ r ≡ decodeClear Kind.VorFrequency word ⌝ }
 {
     judged(
-        frequency_verdict(Band::Vor, word),
+        frequency_judgement(Band::Vor, word),
         word,
         Body::VorFrequency {
             status: decimal_status_in(word),
@@ -177,7 +177,7 @@ fn ils_course(word: u32) -> Decoded
     ensures { λ r. ⌜ r ≡ decodeClear Kind.IlsCourse word ⌝ }
 {
     judged(
-        Verdict::Kept,
+        Judgement::Kept,
         word,
         Body::IlsCourse {
             status: status_in(word),
@@ -191,7 +191,7 @@ fn ils_glide(word: u32) -> Decoded
     ensures { λ r. ⌜ r ≡ decodeClear Kind.IlsGlide word ⌝ }
 {
     judged(
-        Verdict::Kept,
+        Judgement::Kept,
         word,
         Body::IlsGlide {
             status: status_in(word),
@@ -205,7 +205,7 @@ fn ils_frequency(word: u32) -> Decoded
     ensures { λ r. ⌜ r ≡ decodeClear Kind.IlsFrequency word ⌝ }
 {
     judged(
-        frequency_verdict(Band::Ils, word),
+        frequency_judgement(Band::Ils, word),
         word,
         Body::IlsFrequency {
             status: decimal_status_in(word),
@@ -219,7 +219,7 @@ fn mls_frequency(word: u32) -> Decoded
     ensures { λ r. ⌜ r ≡ decodeClear Kind.MlsFrequency word ⌝ }
 {
     judged(
-        frequency_verdict(Band::Mls, word),
+        frequency_judgement(Band::Mls, word),
         word,
         Body::MlsFrequency {
             status: decimal_status_in(word),
@@ -232,7 +232,7 @@ fn mls_azimuth_deviation(word: u32) -> Decoded
     ensures { λ r. ⌜ r ≡ decodeClear Kind.MlsAzimuthDeviation word ⌝ }
 {
     judged(
-        Verdict::Kept,
+        Judgement::Kept,
         word,
         Body::MlsAzimuthDeviation {
             status: status_in(word),
@@ -247,7 +247,7 @@ fn mls_glide_deviation(word: u32) -> Decoded
     ensures { λ r. ⌜ r ≡ decodeClear Kind.MlsGlideDeviation word ⌝ }
 {
     judged(
-        Verdict::Kept,
+        Judgement::Kept,
         word,
         Body::MlsGlideDeviation {
             status: status_in(word),
@@ -289,7 +289,7 @@ fn selected_glide_angle(word: u32) -> Decoded
     ensures { λ r. ⌜ r ≡ decodeClear Kind.SelectedGlideAngle word ⌝ }
 {
     judged(
-        Verdict::Kept,
+        Judgement::Kept,
         word,
         Body::SelectedGlideAngle {
             status: status_in(word),
@@ -303,7 +303,7 @@ fn part_1(word: u32) -> Decoded
     ensures { λ r. ⌜ r ≡ decodeClear Kind.Part1 word ⌝ }
 {
     judged(
-        part_verdict(0, word),
+        part_judgement(0, word),
         word,
         Body::Part1 {
             word_number: (word / 8192 % 256) as u8,
@@ -316,7 +316,7 @@ fn part_2(word: u32) -> Decoded
     ensures { λ r. ⌜ r ≡ decodeClear Kind.Part2 word ⌝ }
 {
     judged(
-        part_verdict(1, word),
+        part_judgement(1, word),
         word,
         Body::Part2 {
             content: content_in(word),
@@ -328,7 +328,7 @@ fn part_3(word: u32) -> Decoded
     ensures { λ r. ⌜ r ≡ decodeClear Kind.Part3 word ⌝ }
 {
     judged(
-        part_verdict(2, word),
+        part_judgement(2, word),
         word,
         Body::Part3 {
             content: content_in(word),
@@ -340,7 +340,7 @@ fn part_4(word: u32) -> Decoded
     ensures { λ r. ⌜ r ≡ decodeClear Kind.Part4 word ⌝ }
 {
     judged(
-        part_verdict(3, word),
+        part_judgement(3, word),
         word,
         Body::Part4 {
             parity_good: flag_11(word),
@@ -384,15 +384,22 @@ fn decode_kind(kind: Kind, word: u32) -> Decoded
     decode_clear(kind, word)
 }
 
-// The record of a word, or its refusal.
-pub fn decode(word: u32) -> Decoded
-    ensures { λ r. ⌜ r ≡ decodeOf word ⌝ }
+// The record of a word whose label was looked up, or its refusal.
+pub fn decode_as(lookup: Lookup, word: u32) -> Decoded
+    ensures { λ r. ⌜ r ≡ decodeAs lookup word ⌝ }
 {
     if !bits::is_odd(word) {
         return Decoded::Refused(Refusal::Parity);
     }
-    match labels::kind_in(word) {
+    match lookup {
         Lookup::Known(kind) => decode_kind(kind, word),
         Lookup::Unknown => Decoded::Refused(Refusal::Label),
     }
+}
+
+// The record of a word, or its refusal.
+pub fn decode(word: u32) -> Decoded
+    ensures { λ r. ⌜ r ≡ decodeOf word ⌝ }
+{
+    decode_as(labels::kind_in(word), word)
 }

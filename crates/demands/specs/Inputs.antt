@@ -23,9 +23,9 @@ use Rattle.labels.specs.Label.{labelOf}
 use Rattle.labels.specs.Assignment.{Assignment, document01}
 use Rattle.labels.specs.declared.Lookup.{Lookup}
 use Rattle.decode.specs.Rules.{Rules, rules}
-use Rattle.decode.specs.Decode.{verdict, judged, recordOf, decodeKind, decodeFound, decodeOf}
+use Rattle.decode.specs.Decode.{judgement, judged, recordOf, decodeKind, decodeFound, decodeOf}
 use Rattle.decode.specs.declared.Decoded.{Decoded}
-use Rattle.decode.specs.declared.Verdict.{Verdict}
+use Rattle.decode.specs.declared.Judgement.{Judgement}
 use Rattle.encode.specs.Encode.{codesListed, valuesLegal, wordOf, encodeOf}
 use Rattle.encode.specs.declared.Encoded.{Encoded}
 use Rattle.chart.specs.Words.{wordRules, chartPoint, word-order}
@@ -190,11 +190,11 @@ pub record Demand1 : Type 0 where
 abbrev wordNumbers : List ℕ
 wordNumbers = 1 ∷ 2 ∷ 3 ∷ 4 ∷ 5 ∷ 6 ∷ 7 ∷ []
 
-verdict-numbers : (r : Rules) (x : Record) → Refusing wordNumbers (ofDecoded (judged (verdict r) x))
-verdict-numbers r x = by (r .digits) (r .codes) (r .value) (r .angle)
+judgement-numbers : (r : Rules) (x : Record) → Refusing wordNumbers (ofDecoded (judged (judgement r) x))
+judgement-numbers r x = by (r .digits) (r .codes) (r .value) (r .angle)
   where
     by : (d c v a : Bool)
-        → Refusing wordNumbers (ofDecoded (judged (cond d (cond c (cond v (cond a Verdict.Kept (Verdict.Broken Refusal.AngleParity)) (Verdict.Broken Refusal.Value)) (Verdict.Broken Refusal.Code)) (Verdict.Broken Refusal.Digit)) x))
+        → Refusing wordNumbers (ofDecoded (judged (cond d (cond c (cond v (cond a Judgement.Kept (Judgement.Broken Refusal.AngleParity)) (Judgement.Broken Refusal.Value)) (Judgement.Broken Refusal.Code)) (Judgement.Broken Refusal.Digit)) x))
     by false c v a = refl
     by true false v a = refl
     by true true false a = refl
@@ -202,7 +202,7 @@ verdict-numbers r x = by (r .digits) (r .codes) (r .value) (r .angle)
     by true true true true = tt
 
 kind-numbers : (k : Kind) (w : ℕ) → Refusing wordNumbers (ofDecoded (decodeKind k w))
-kind-numbers k w = by (clear (wordLayout k) w) (judged (verdict (rules k w)) (recordOf k w)) (verdict-numbers (rules k w) (recordOf k w))
+kind-numbers k w = by (clear (wordLayout k) w) (judged (judgement (rules k w)) (recordOf k w)) (judgement-numbers (rules k w) (recordOf k w))
   where
     by : (b : Bool) (d : Decoded) → Refusing wordNumbers (ofDecoded d) → Refusing wordNumbers (ofDecoded (cond b d (Decoded.Refused Refusal.ZeroBit)))
     by true d h = h

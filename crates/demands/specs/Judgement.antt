@@ -19,9 +19,9 @@ use Rattle.labels.specs.Label.{labelOf}
 use Rattle.labels.specs.Assignment.{Assignment}
 use Rattle.labels.specs.declared.Lookup.{Lookup}
 use Rattle.decode.specs.Rules.{Rules, rules}
-use Rattle.decode.specs.Decode.{verdict, recordOf, judged, decodeKind, decodeFound, decodeWith}
+use Rattle.decode.specs.Decode.{judgement, recordOf, judged, decodeKind, decodeFound, decodeWith}
 use Rattle.decode.specs.declared.Decoded.{Decoded}
-use Rattle.decode.specs.declared.Verdict.{Verdict}
+use Rattle.decode.specs.declared.Judgement.{Judgement}
 use Rattle.demands.specs.Table.{ZeroBits}
 use Rattle.demands.specs.TableLemmas.{zero-bits}
 use Rattle.demands.specs.Allowed.{Asks, asks, Allowed}
@@ -45,7 +45,7 @@ decoded = record {
 }
 
 -- the judgement of a tested rule
-judged-test : (b : Bool) (v : Verdict) (f : Refusal) (r : Record) → judged (cond b v (Verdict.Broken f)) r ≡ cond b (judged v r) (Decoded.Refused f)
+judged-test : (b : Bool) (v : Judgement) (f : Refusal) (r : Record) → judged (cond b v (Judgement.Broken f)) r ≡ cond b (judged v r) (Decoded.Refused f)
 judged-test true v f r = refl
 judged-test false v f r = refl
 
@@ -60,14 +60,14 @@ module _ (a : Assignment) (w : ℕ) where
 
   module _ (k : Kind) (own : labelOf w ≡ a .label k) where
     -- a rule of the fields: its test says what is asked of this kind
-    field-follows : (P : Kind → Type 0) (rest : List (Rule Refusal)) (b : Bool) (v : Verdict) (f : Refusal) → (b ≡ true) ↔ P k
-        → (P k → Follows decoded rest (judged v (recordOf k w))) → Follows decoded (order.asks (OfItsKind a w P) f ∷ rest) (judged (cond b v (Verdict.Broken f)) (recordOf k w))
+    field-follows : (P : Kind → Type 0) (rest : List (Rule Refusal)) (b : Bool) (v : Judgement) (f : Refusal) → (b ≡ true) ↔ P k
+        → (P k → Follows decoded rest (judged v (recordOf k w))) → Follows decoded (order.asks (OfItsKind a w P) f ∷ rest) (judged (cond b v (Judgement.Broken f)) (recordOf k w))
     field-follows P rest b v f test next =
         let its = of-its-kind k own P in
         subst⁻¹ (Follows decoded (order.asks (OfItsKind a w P) f ∷ rest)) (judged-test b v f (recordOf k w))
         (tested decoded b (OfItsKind a w P) f rest (judged v (recordOf k w)) (λ e. its .0 (test .0 e)) (λ x. test .1 (its .1 x)) (λ x. next (its .1 x)))
 
-    fields-follow : Follows decoded (fieldRules a w) (judged (verdict (rules k w)) (recordOf k w))
+    fields-follow : Follows decoded (fieldRules a w) (judged (judgement (rules k w)) (recordOf k w))
     fields-follow =
         let t = tests.tested k w in
         field-follows (λ j. asks j w .digits) _ (rules k w .digits) _ Refusal.Digit (t .digits)

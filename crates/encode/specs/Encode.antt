@@ -1,6 +1,8 @@
--- A record's word, or its refusal: 4 if a code or the source is outside its list, else 6 if any other field is.
+-- A record's word, or its refusal: 2 for a label of more than 8 bits, 4 if a code or the source is outside its list, else 6 if any other field is.
 -- Assumes nothing.
 use mathlib.Core.Path.{_≡_}
+use borrow.Author.Tests.{le-leb}
+use native.Mathlib.Omega.{arith}
 use mathlib.Core.Bool.{Bool, true, false, cond, _&&_}
 use mathlib.Core.List.{List, [], _∷_, _++_}
 use Prim.Native.Nat.{ℕ}
@@ -69,21 +71,40 @@ valuesLegal (Body.Part4 good content) = leb content 65535
 abbrev pub upperBits : Body → ℕ
 upperBits b = join (upperLayout (kindOf b)) (fieldsOf b ++ (statusBits b ∷ []))
 
--- bits 1 to 31, under an assignment of labels
-abbrev pub lowerBits : Assignment → Record → ℕ
-lowerBits a r =
-    join (lowerLayout (kindOf (r .body)))
-    (labelOf (a .label (kindOf (r .body))) ∷ r .source ∷ (fieldsOf (r .body) ++ (statusBits (r .body) ∷ [])))
+-- bits 1 to 31 under a label, and bit 32 makes the ones odd
+abbrev pub lowerAs : ℕ → Record → ℕ
+lowerAs l r = join (lowerLayout (kindOf (r .body))) (labelOf l ∷ r .source ∷ (fieldsOf (r .body) ++ (statusBits (r .body) ∷ [])))
 
--- and bit 32 makes the ones odd
+abbrev pub wordAs : ℕ → Record → ℕ
+wordAs l r = withParity 31 (lowerAs l r)
+
+-- a record under a label of 8 bits
+abbrev pub encodeUnder : ℕ → Record → Encoded
+encodeUnder l r =
+    cond (leb (r .source) 3 && codesListed (r .body))
+    (cond (valuesLegal (r .body)) (Encoded.Word (wordAs l r)) (Encoded.Refused Refusal.Value))
+    (Encoded.Refused Refusal.Code)
+
+-- a record under any number: a greater one is no label
+abbrev pub encodeAs : ℕ → Record → Encoded
+encodeAs l r = cond (leb l 255) (encodeUnder l r) (Encoded.Refused Refusal.Label)
+
+-- under the label of the record's kind, by an assignment of labels
+abbrev pub recordLabel : Assignment → Record → ℕ
+recordLabel a r = a .label (kindOf (r .body))
+
+abbrev pub lowerBits : Assignment → Record → ℕ
+lowerBits a r = lowerAs (recordLabel a r) r
+
 abbrev pub wordOf : Assignment → Record → ℕ
-wordOf a r = withParity 31 (lowerBits a r)
+wordOf a r = wordAs (recordLabel a r) r
 
 abbrev pub encodeWith : Assignment → Record → Encoded
-encodeWith a r =
-    cond (leb (r .source) 3 && codesListed (r .body))
-    (cond (valuesLegal (r .body)) (Encoded.Word (wordOf a r)) (Encoded.Refused Refusal.Value))
-    (Encoded.Refused Refusal.Code)
+encodeWith a r = encodeUnder (recordLabel a r) r
+
+-- which is a label of 8 bits
+pub encode-with : (a : Assignment) (r : Record) → encodeAs (recordLabel a r) r ≡ encodeWith a r
+encode-with a r = rw (le-leb (recordLabel a r) 255 (omega (arith, a .short (kindOf (r .body)))))
 
 -- under document 01's labels
 abbrev pub encodeOf : Record → Encoded

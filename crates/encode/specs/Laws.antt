@@ -24,7 +24,7 @@ use Rattle.records.specs.declared.Record.{Record}
 use Rattle.labels.specs.Label.{labelOf, label-lt}
 use Rattle.labels.specs.Assignment.{Assignment}
 use Rattle.encode.specs.Fields.{fieldsOf, statusBits}
-use Rattle.encode.specs.Encode.{valuesLegal, upperBits, lowerBits}
+use Rattle.encode.specs.Encode.{valuesLegal, upperBits, lowerAs, lowerBits}
 
 below : (n k : ℕ) → leb n k ≡ true → n < k + 1
 below n k e = omega (arith, leb-true n k e)
@@ -66,5 +66,5 @@ upper-lt b e =
 pub lower-is : (a : Assignment) (r : Record) → lowerBits a r ≡ (upperBits (r .body) * 4 + r .source) * 256 + labelOf (a .label (kindOf (r .body)))
 lower-is a r = refl
 
-pub lower-lt : (a : Assignment) (r : Record) → r .source < 4 → valuesLegal (r .body) ≡ true → lowerBits a r < 2 ^ 31
-lower-lt a r s e = omega (arith, upper-lt (r .body) e, label-lt (a .label (kindOf (r .body))))
+pub lower-lt : (l : ℕ) (r : Record) → r .source < 4 → valuesLegal (r .body) ≡ true → lowerAs l r < 2 ^ 31
+lower-lt l r s e = omega (arith, upper-lt (r .body) e, label-lt l)

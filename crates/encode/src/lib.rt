@@ -10,8 +10,7 @@ ghost use Prim.Native.Nat.{_+_, _*_, _<_, _/_, _%_};
 ghost use Rattle.bits.specs.Complement.{complement};
 ghost use Rattle.codes.specs.Codes.{binaryCode, decimalCode, flagBit, decimalListed};
 ghost use Rattle.frequencies.specs.Frequencies.{tensCode};
-ghost use Rattle.labels.specs.Assignment.{document01};
-ghost use Rattle.encode.specs.Encode.{codesListed, narrow, wide, valuesLegal, upperBits, wordOf, encodeOf};
+ghost use Rattle.encode.specs.Encode.{codesListed, narrow, wide, valuesLegal, upperBits, wordAs, encodeAs, encodeOf};
 
 // What writing a record gives: a word, or a refusal.
 pub enum Encoded {
@@ -189,22 +188,23 @@ fn upper_bits(body: Body) -> u32
     }
 }
 
-// The word of a legal record.
-fn word_of(record: Record) -> u32
+// The word of a legal record under a label.
+fn word_of(label: u32, record: Record) -> u32
     requires { ⌜ («record» .source < 4) × (valuesLegal («record» .body) ≡ true) ⌝ }
-    ensures { λ r. ⌜ r ≡ wordOf document01 «record» ⌝ }
+    ensures { λ r. ⌜ r ≡ wordAs label «record» ⌝ }
 {
     let body = record.body;
-    let row = labels::row_of(records::kind_of(body));
-    let label = row.label;
     let lower = (upper_bits(body) * 4 + record.source as u32) * 256 + labels::label_of(label);
     bits::parity_bit(lower) * 2147483648 + lower
 }
 
-// The word of a record, or its refusal.
-pub fn encode(record: Record) -> Encoded
-    ensures { λ r. ⌜ r ≡ encodeOf «record» ⌝ }
+// The word of a record under a label, or its refusal: 2 for a label above 255, then 4, then 6.
+pub fn encode_as(label: u32, record: Record) -> Encoded
+    ensures { λ r. ⌜ r ≡ encodeAs label «record» ⌝ }
 {
+    if 255 < label {
+        return Encoded::Refused(Refusal::Label);
+    }
     let body = record.body;
     let codes = (record.source <= 3) & codes_listed(body);
     if !codes {
@@ -213,5 +213,14 @@ pub fn encode(record: Record) -> Encoded
     if !values_legal(body) {
         return Encoded::Refused(Refusal::Value);
     }
-    Encoded::Word(word_of(record))
+    Encoded::Word(word_of(label, record))
+}
+
+// The word of a record, or its refusal.
+pub fn encode(record: Record) -> Encoded
+    ensures { λ r. ⌜ r ≡ encodeOf «record» ⌝ }
+{
+    let body = record.body;
+    let row = labels::row_of(records::kind_of(body));
+    encode_as(row.label, record)
 }

@@ -13,7 +13,7 @@ use Rattle.codes.specs.declared.Category.{Category}
 use Rattle.records.specs.declared.Kind.{Kind}
 use Rattle.codes.specs.declared.Marker.{Marker}
 use Rattle.codes.specs.declared.Status.{Status}
-use Rattle.records.specs.All.{kinds, agree}
+use Rattle.records.specs.All.{kinds, agree, placeOf}
 use Rattle.labels.specs.declared.Lookup.{Lookup}
 use Rattle.flat_records.specs.Numbers.{statusNumber}
 use Rattle.flat_fields.specs.Fields.{statusOf, statusListed, isFlag, kindIn, kindAt}
@@ -73,25 +73,8 @@ flag-number n e = flag-bit n (omega (arith, leb-true n 1 e))
 
 -- ---- a place of document 01's table, counted from 1, gives its kind, and only that place does
 
-abbrev pub placeOf : Kind → ℕ
-placeOf Kind.VorAzimuth = 1
-placeOf Kind.VorFrequency = 2
-placeOf Kind.IlsCourse = 3
-placeOf Kind.IlsGlide = 4
-placeOf Kind.IlsFrequency = 5
-placeOf Kind.MlsFrequency = 6
-placeOf Kind.MlsAzimuthDeviation = 7
-placeOf Kind.MlsGlideDeviation = 8
-placeOf Kind.SelectedAzimuth = 9
-placeOf Kind.GreatestGlideAngle = 10
-placeOf Kind.SelectedGlideAngle = 11
-placeOf Kind.Part1 = 12
-placeOf Kind.Part2 = 13
-placeOf Kind.Part3 = 14
-placeOf Kind.Part4 = 15
-
 pub kind-at : (k : Kind) → kindAt (placeOf k) ≡ Lookup.Known k
-kind-at k = agree (λ j. kindAt (placeOf j)) Lookup.Known refl k
+kind-at = agree (λ k. kindAt (placeOf k)) Lookup.Known refl
 
 -- a run of the table, at its places
 abbrev Placed : List Kind → ℕ → Type 0

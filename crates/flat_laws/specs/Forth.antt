@@ -9,6 +9,7 @@ use borrow.Author.Tests.{leb-true}
 use lib.Dec.{eqb, leb}
 use Rattle.bits.specs.Laws.{both-true}
 use Rattle.codes.specs.Codes.{markerListed, flagBit, marker-code}
+use Rattle.records.specs.All.{placeOf}
 use Rattle.records.specs.declared.Kind.{Kind}
 use Rattle.records.specs.declared.Record.{Record}
 use Rattle.refusals.specs.declared.Refusal.{Refusal}
@@ -17,7 +18,7 @@ use Rattle.decode.specs.declared.Decoded.{Decoded}
 use Rattle.flat_records.specs.Numbers.{statusNumber, withCount, withValue, part, flatBody, flatOf}
 use Rattle.flat_records.specs.declared.FlatRecord.{FlatRecord}
 use Rattle.flat_fields.specs.Fields.{statusOf, statusListed, kindAt, listed, isFlag, isOctet, isShort, fits, fieldsOf, bodyFrom, recordAs, recordOfKind, recordFound, recordFrom}
-use Rattle.flat_laws.specs.Codes.{placeOf, place-of, status-number, category-number, flag-number}
+use Rattle.flat_laws.specs.Codes.{place-of, status-number, category-number, flag-number}
 
 -- the numbers in the fields that a kind has
 abbrev pub only : Kind → FlatRecord → FlatRecord

@@ -1,25 +1,19 @@
 -- The numbers that a step gives back stand for the state that the reassembly is then in.
 -- Assumes nothing.
-use mathlib.Core.Path.{_≡_, refl}
+use mathlib.Core.Path.{_≡_, refl, subst}
 use mathlib.Core.Bool.{Bool, true, false, cond}
 use Prim.Native.Nat.{ℕ, _+_, _*_, _/_, _%_, _^_, _<_}
 use native.Mathlib.Nat.{mod-lt}
 use native.Mathlib.Omega.{arith}
 use lib.Dec.{eqb, lit<}
 use Rattle.bits.specs.Fields.{bits}
-use Rattle.bits.specs.Parity.{odd}
-use Rattle.records.specs.declared.Kind.{Kind}
-use Rattle.refusals.specs.declared.Refusal.{Refusal}
 use Rattle.labels.specs.Assignment.{document01}
-use Rattle.labels.specs.Label.{labelOf}
-use Rattle.labels.specs.declared.Lookup.{Lookup}
-use Rattle.decode.specs.Decode.{decodeOf}
-use Rattle.decode.specs.declared.Decoded.{Decoded}
 use Rattle.reassembly_parts.specs.Take.{dropped, fromSame, takeOf}
 use Rattle.reassembly_parts.specs.declared.Part.{Part}
 use Rattle.reassembly_parts.specs.declared.Reassembly.{Reassembly}
 use Rattle.reassembly_parts.specs.declared.Step.{Step}
-use Rattle.reassembly.specs.Parts.{unlessRefused, partOfKind, partFound, partIn}
+use Rattle.reassembly.specs.Carries.{Carries, carries}
+use Rattle.reassembly.specs.Parts.{partIn}
 use Rattle.reassembly.specs.Step.{stepOf, takeWord}
 use Rattle.reassembly.specs.declared.PartIn.{PartIn}
 use Rattle.reassembly.specs.declared.Reassembler.{Reassembler}
@@ -104,40 +98,19 @@ take-short (Reassembly.AfterOne s a) (Part.Four t d m) h i = tt
 take-short (Reassembly.AfterTwo s a b) (Part.Four t d m) h i = tt
 take-short (Reassembly.AfterThree s a b c) (Part.Four t d m) h i = same-short s t _ tt
 
-content-short : (w : ℕ) → bits 14 29 w < 65536
-content-short w = low (w / 2 ^ 13)
-
-unless-short : (d : Decoded) (p : Part) → content p < 65536 → ShortPart (unlessRefused d p)
-unless-short (Decoded.Accepted r) p h = h
-unless-short (Decoded.Refused f) p h = tt
-
-kind-short : (k : Kind) (d : Decoded) (w : ℕ) → ShortPart (partOfKind k d w)
-kind-short Kind.VorAzimuth d w = tt
-kind-short Kind.VorFrequency d w = tt
-kind-short Kind.IlsCourse d w = tt
-kind-short Kind.IlsGlide d w = tt
-kind-short Kind.IlsFrequency d w = tt
-kind-short Kind.MlsFrequency d w = tt
-kind-short Kind.MlsAzimuthDeviation d w = tt
-kind-short Kind.MlsGlideDeviation d w = tt
-kind-short Kind.SelectedAzimuth d w = tt
-kind-short Kind.GreatestGlideAngle d w = tt
-kind-short Kind.SelectedGlideAngle d w = tt
-kind-short Kind.Part1 d w = unless-short d _ (content-short w)
-kind-short Kind.Part2 d w = unless-short d _ (content-short w)
-kind-short Kind.Part3 d w = unless-short d _ (content-short w)
-kind-short Kind.Part4 d w = unless-short d _ (content-short w)
-
-found-short : (l : Lookup) (d : Decoded) (w : ℕ) → ShortPart (partFound l d w)
-found-short (Lookup.Known k) d w = kind-short k d w
-found-short Lookup.Unknown d w = tt
+-- the content of a part is bits 14 to 29 of its word
+content-short : (w : ℕ) (p : Part) → Carries document01 p w → content p < 65536
+content-short w (Part.One s c) h = subst (λ (n : ℕ). n < 65536) (h .2) (low (w / 2 ^ 13))
+content-short w (Part.Two s c) h = subst (λ (n : ℕ). n < 65536) (h .2) (low (w / 2 ^ 13))
+content-short w (Part.Three s c) h = subst (λ (n : ℕ). n < 65536) (h .2) (low (w / 2 ^ 13))
+content-short w (Part.Four s c g) h = subst (λ (n : ℕ). n < 65536) (h .2) (low (w / 2 ^ 13))
 
 part-short : (w : ℕ) → ShortPart (partIn w)
-part-short w = by (odd w)
+part-short w = by (partIn w) refl
   where
-    by : (b : Bool) → ShortPart (cond b (partFound (document01 .kind (labelOf w)) (decodeOf w) w) (PartIn.Refused Refusal.Parity))
-    by true = found-short (document01 .kind (labelOf w)) (decodeOf w) w
-    by false = tt
+    by : (x : PartIn) → partIn w ≡ x → ShortPart x
+    by (PartIn.Carried p) e = content-short w p (carries document01 w p .0 e)
+    by (PartIn.Refused f) e = tt
 
 step-short : (s : Reassembler) (x : PartIn) → Short (s .«group_c») → ShortPart x → Short (stepOf s x .next .«group_c»)
 step-short s (PartIn.Carried p) h i = take-short (s .«group_c») p h i

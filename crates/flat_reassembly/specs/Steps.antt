@@ -45,7 +45,7 @@ partialOf (Reassembly.AfterThree s a b c) = record { parts = 3; source = s; bits
 -- the numbers of an answer
 abbrev pub answered : WordAnswer → FlatAnswer
 answered WordAnswer.Incomplete = record { refusal = 0; complete = 0; «parity_good» = 0; bits = 0 }
-answered (WordAnswer.Complete g) = record { refusal = 0; complete = 1; «parity_good» = flagBit (g .mark); bits = g .bits }
+answered (WordAnswer.Complete g) = record { refusal = 0; complete = 1; «parity_good» = flagBit (g .«parity_good»); bits = g .bits }
 answered (WordAnswer.Refused f) = record { refusal = numberOf f; complete = 0; «parity_good» = 0; bits = 0 }
 
 abbrev pub stepWith : Partial → FlatAnswer → FlatStep

@@ -15,7 +15,7 @@ pub struct Partial {
     pub bits: u64,
 }
 
-// The answer to one word with the partial group that is then held. The bits and the mark stand beside a complete group alone.
+// The answer to one word with the partial group that is then held. The bits and the parity stand beside a complete group alone.
 #[repr(C)]
 pub struct FlatStep {
     pub next: Partial,
@@ -100,7 +100,7 @@ fn answered(answer: WordAnswer) -> FlatAnswer
         WordAnswer::Complete(group) => FlatAnswer {
             refusal: 0,
             complete: 1,
-            parity_good: flat_records::flag_number(group.mark),
+            parity_good: flat_records::flag_number(group.parity_good),
             bits: group.bits,
         },
         WordAnswer::Refused(refusal) => FlatAnswer {

@@ -4,6 +4,8 @@ use Prim.Native.Nat.{ℕ}
 use lib.IntN.{ℤ, pos}
 use Rattle.codes.specs.Codes.{markerCode, categoryCode, flagBit}
 use Rattle.refusals.specs.Numbers.{numberOf}
+use Rattle.records.specs.All.{placeOf}
+use Rattle.records.specs.Kinds.{kindOf}
 use Rattle.records.specs.declared.Body.{Body}
 use Rattle.codes.specs.declared.Status.{Status}
 use Rattle.decode.specs.declared.Decoded.{Decoded}
@@ -68,23 +70,27 @@ part kind source good number content = record {
   value = content;
 }
 
--- the numbers of a record, from its source and body
+-- the numbers of a record, from its kind's number, its source and its body
+abbrev pub flatNumbers : ℕ → ℕ → Body → FlatRecord
+flatNumbers n s (Body.VorAzimuth status marker count) = withCount n s (statusNumber status) (markerCode marker) 0 0 (count .0)
+flatNumbers n s (Body.VorFrequency status frequency) = withValue n s (statusNumber status) 0 0 frequency
+flatNumbers n s (Body.IlsCourse status inhibit count) = withCount n s (statusNumber status) 0 (flagBit inhibit) 0 (count .0)
+flatNumbers n s (Body.IlsGlide status inhibit count) = withCount n s (statusNumber status) 0 (flagBit inhibit) 0 (count .0)
+flatNumbers n s (Body.IlsFrequency status category frequency) = withValue n s (statusNumber status) (categoryCode category) 0 frequency
+flatNumbers n s (Body.MlsFrequency status frequency) = withValue n s (statusNumber status) 0 0 frequency
+flatNumbers n s (Body.MlsAzimuthDeviation status inhibit clearance count) = withCount n s (statusNumber status) 0 (flagBit inhibit) (flagBit clearance) (count .0)
+flatNumbers n s (Body.MlsGlideDeviation status inhibit clearance count) = withCount n s (statusNumber status) 0 (flagBit inhibit) (flagBit clearance) (count .0)
+flatNumbers n s (Body.SelectedAzimuth status manual degrees) = withValue n s (statusNumber status) 0 (flagBit manual) degrees
+flatNumbers n s (Body.GreatestGlideAngle status tenths) = withValue n s (statusNumber status) 0 0 tenths
+flatNumbers n s (Body.SelectedGlideAngle status manual tenths) = withValue n s (statusNumber status) 0 (flagBit manual) tenths
+flatNumbers n s (Body.Part1 number content) = part n s 0 number content
+flatNumbers n s (Body.Part2 content) = part n s 0 0 content
+flatNumbers n s (Body.Part3 content) = part n s 0 0 content
+flatNumbers n s (Body.Part4 good content) = part n s (flagBit good) 0 content
+
+-- a kind's number is its place in document 01's table
 abbrev pub flatBody : ℕ → Body → FlatRecord
-flatBody s (Body.VorAzimuth status marker count) = withCount 1 s (statusNumber status) (markerCode marker) 0 0 (count .0)
-flatBody s (Body.VorFrequency status frequency) = withValue 2 s (statusNumber status) 0 0 frequency
-flatBody s (Body.IlsCourse status inhibit count) = withCount 3 s (statusNumber status) 0 (flagBit inhibit) 0 (count .0)
-flatBody s (Body.IlsGlide status inhibit count) = withCount 4 s (statusNumber status) 0 (flagBit inhibit) 0 (count .0)
-flatBody s (Body.IlsFrequency status category frequency) = withValue 5 s (statusNumber status) (categoryCode category) 0 frequency
-flatBody s (Body.MlsFrequency status frequency) = withValue 6 s (statusNumber status) 0 0 frequency
-flatBody s (Body.MlsAzimuthDeviation status inhibit clearance count) = withCount 7 s (statusNumber status) 0 (flagBit inhibit) (flagBit clearance) (count .0)
-flatBody s (Body.MlsGlideDeviation status inhibit clearance count) = withCount 8 s (statusNumber status) 0 (flagBit inhibit) (flagBit clearance) (count .0)
-flatBody s (Body.SelectedAzimuth status manual degrees) = withValue 9 s (statusNumber status) 0 (flagBit manual) degrees
-flatBody s (Body.GreatestGlideAngle status tenths) = withValue 10 s (statusNumber status) 0 0 tenths
-flatBody s (Body.SelectedGlideAngle status manual tenths) = withValue 11 s (statusNumber status) 0 (flagBit manual) tenths
-flatBody s (Body.Part1 number content) = part 12 s 0 number content
-flatBody s (Body.Part2 content) = part 13 s 0 0 content
-flatBody s (Body.Part3 content) = part 14 s 0 0 content
-flatBody s (Body.Part4 good content) = part 15 s (flagBit good) 0 content
+flatBody s b = flatNumbers (placeOf (kindOf b)) s b
 
 -- beside a refusal every other number is zero
 abbrev pub refused : ℕ → FlatRecord

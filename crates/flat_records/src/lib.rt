@@ -7,7 +7,7 @@ use records::Body;
 ghost use mathlib.Core.Path.{_≡_};
 ghost use Rattle.codes.specs.Codes.{markerCode, categoryCode, flagBit};
 ghost use Rattle.decode.specs.Decode.{decodeOf};
-ghost use Rattle.flat_records.specs.Numbers.{statusNumber, withCount, withValue, part, refused, flatBody, flatOf};
+ghost use Rattle.flat_records.specs.Numbers.{statusNumber, withCount, withValue, part, refused, flatNumbers, flatOf};
 
 // A record as numbers. Zero stands in every field that the kind has not, and beside a refusal in every other field.
 #[repr(C)]
@@ -175,18 +175,18 @@ fn refused(refusal: u8) -> FlatRecord
     }
 }
 
-// The numbers of a record, from its source and body.
-fn flat_body(source: u8, body: Body) -> FlatRecord
-    ensures { λ r. ⌜ r ≡ flatBody source body ⌝ }
+// The numbers of a record, from its kind's number, its source and its body.
+fn flat_numbers(kind: u8, source: u8, body: Body) -> FlatRecord
+    ensures { λ r. ⌜ r ≡ flatNumbers kind source body ⌝ }
 {
     match body {
         Body::VorAzimuth {
             status,
             marker,
             count,
-        } => with_count(1, source, status, marker, false, false, count.0),
+        } => with_count(kind, source, status, marker, false, false, count.0),
         Body::VorFrequency { status, frequency } => with_value(
-            2,
+            kind,
             source,
             status,
             Category::NotStated,
@@ -197,19 +197,19 @@ fn flat_body(source: u8, body: Body) -> FlatRecord
             status,
             inhibit,
             count,
-        } => with_count(3, source, status, Marker::None, inhibit, false, count.0),
+        } => with_count(kind, source, status, Marker::None, inhibit, false, count.0),
         Body::IlsGlide {
             status,
             inhibit,
             count,
-        } => with_count(4, source, status, Marker::None, inhibit, false, count.0),
+        } => with_count(kind, source, status, Marker::None, inhibit, false, count.0),
         Body::IlsFrequency {
             status,
             category,
             frequency,
-        } => with_value(5, source, status, category, false, frequency),
+        } => with_value(kind, source, status, category, false, frequency),
         Body::MlsFrequency { status, frequency } => with_value(
-            6,
+            kind,
             source,
             status,
             Category::NotStated,
@@ -221,19 +221,35 @@ fn flat_body(source: u8, body: Body) -> FlatRecord
             inhibit,
             clearance,
             count,
-        } => with_count(7, source, status, Marker::None, inhibit, clearance, count.0),
+        } => with_count(
+            kind,
+            source,
+            status,
+            Marker::None,
+            inhibit,
+            clearance,
+            count.0,
+        ),
         Body::MlsGlideDeviation {
             status,
             inhibit,
             clearance,
             count,
-        } => with_count(8, source, status, Marker::None, inhibit, clearance, count.0),
+        } => with_count(
+            kind,
+            source,
+            status,
+            Marker::None,
+            inhibit,
+            clearance,
+            count.0,
+        ),
         Body::SelectedAzimuth {
             status,
             manual,
             degrees,
         } => with_value(
-            9,
+            kind,
             source,
             status,
             Category::NotStated,
@@ -241,7 +257,7 @@ fn flat_body(source: u8, body: Body) -> FlatRecord
             degrees as u32,
         ),
         Body::GreatestGlideAngle { status, tenths } => with_value(
-            10,
+            kind,
             source,
             status,
             Category::NotStated,
@@ -253,7 +269,7 @@ fn flat_body(source: u8, body: Body) -> FlatRecord
             manual,
             tenths,
         } => with_value(
-            11,
+            kind,
             source,
             status,
             Category::NotStated,
@@ -263,13 +279,13 @@ fn flat_body(source: u8, body: Body) -> FlatRecord
         Body::Part1 {
             word_number,
             content,
-        } => part(12, source, false, word_number, content as u16),
-        Body::Part2 { content } => part(13, source, false, 0, content),
-        Body::Part3 { content } => part(14, source, false, 0, content),
+        } => part(kind, source, false, word_number, content as u16),
+        Body::Part2 { content } => part(kind, source, false, 0, content),
+        Body::Part3 { content } => part(kind, source, false, 0, content),
         Body::Part4 {
             parity_good,
             content,
-        } => part(15, source, parity_good, 0, content),
+        } => part(kind, source, parity_good, 0, content),
     }
 }
 
@@ -281,7 +297,8 @@ pub fn flat_of(decoded: Decoded) -> FlatRecord
         Decoded::Accepted(record) => {
             let source = record.source;
             let body = record.body;
-            flat_body(source, body)
+            let kind = records::place_of(records::kind_of(body));
+            flat_numbers(kind, source, body)
         }
         Decoded::Refused(refusal) => refused(refusals::number(refusal)),
     }

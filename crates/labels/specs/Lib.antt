@@ -1,4 +1,4 @@
 pub mod Label
 pub mod Table
 pub mod Assignment
-pub mod Hash
+pub mod HashLemmas

@@ -4,7 +4,7 @@ ghost use mathlib.Core.Path.{_≡_};
 ghost use Prim.Native.Nat.{_<_, _%_};
 ghost use Rattle.labels.specs.Label.{labelOf};
 ghost use Rattle.labels.specs.Table.{rows, rowOf, kindAt, findKind};
-ghost use Rattle.labels.specs.Hash.{byteOf, candidateOf};
+ghost use Rattle.labels.specs.HashLemmas.{byteOf, candidateOf};
 
 // A row of the table. A one in `zeros` is a bit that is zero in every word of the kind.
 pub struct Row {

@@ -13,7 +13,7 @@ use Rattle.reassembly_parts.specs.declared.Group.{Group}
 use Rattle.reassembly_parts.specs.Bits.{group-bit}
 use Rattle.reassembly_parts.specs.Run.{groupOf}
 
--- the group that four words give: bits 14 to 29 of each, those of the first lowest, and the mark in bit 11 of the fourth
+-- the group that four words give: bits 14 to 29 of each, those of the first lowest, and whether the parity was good, bit 11 of the fourth
 abbrev pub groupFrom : (w₁ w₂ w₃ w₄ : ℕ) → Group
 groupFrom w₁ w₂ w₃ w₄ = groupOf (bits 14 29 w₁) (bits 14 29 w₂) (bits 14 29 w₃) (bits 14 29 w₄) (eqb (bits 11 11 w₄) 1)
 

@@ -16,20 +16,21 @@ use Rattle.records.specs.declared.Kind.{Kind}
 use Rattle.records.specs.declared.Kind.the-variants.{VorAzimuth, VorFrequency, IlsCourse, IlsGlide, IlsFrequency, MlsFrequency, MlsAzimuthDeviation, MlsGlideDeviation, SelectedAzimuth, GreatestGlideAngle, SelectedGlideAngle, Part1, Part2, Part3, Part4}
 use Rattle.records.specs.declared.Record.{Record}
 use Rattle.refusals.specs.declared.Refusal.{Refusal}
-use Rattle.refusals.specs.declared.Refusal.the-variants.{Label, ZeroBit, Code}
+use Rattle.refusals.specs.declared.Refusal.the-variants.{Parity, Label, ZeroBit, Code}
 use Rattle.labels.specs.Label.{labelOf}
 use Rattle.labels.specs.Assignment.{Assignment}
 use Rattle.labels.specs.declared.Lookup.{Lookup}
 use Rattle.labels.specs.declared.Lookup.the-variants.{Known, Unknown}
 use Rattle.decode.specs.declared.Decoded.{Decoded}
-use Rattle.decode.specs.declared.Verdict.{Verdict}
-use Rattle.decode.specs.Rules.{rules}
-use Rattle.decode.specs.Decode.{verdict, recordOf, judged, decodeKind, decodeFound, decodeWith, parity-broken as decode-even, parity-kept as decode-odd}
+use Rattle.decode.specs.declared.Judgement.{Judgement}
+use Rattle.decode.specs.Rules.{rules, bodyOf}
+use Rattle.decode.specs.Decode.{judgement, recordOf, judged, decodeKind, decodeFound, decodeAs, decodeWith, parity-kept as decode-odd}
 use Rattle.reassembly_parts.specs.declared.Part.{Part}
 use Rattle.reassembly_parts.specs.declared.Part.the-variants.{One, Two, Three, Four}
 use Rattle.reassembly.specs.declared.PartIn.{PartIn}
 use Rattle.reassembly.specs.declared.PartIn.the-variants.{Carried, Refused}
-use Rattle.reassembly.specs.Parts.{unlessRefused, partOfKind, partFound, partWith, parity-broken, parity-kept}
+use Rattle.reassembly.specs.Parts.{partKind, onlyParts, partOf, partRead, partWith, parity-broken}
+use Rattle.reassembly.specs.Bits.{first-content}
 
 -- A word that a row of the table allows: odd parity, the row's label, zeros from the bit `from` to bit 13, and the row's code in bits 31, 30.
 pub record PartWord (label from code w : ℕ) : Type 0 where
@@ -39,7 +40,7 @@ pub record PartWord (label from code w : ℕ) : Type 0 where
   pub coded : bits 30 31 w ≡ code
 
 module _ (a : Assignment) where
-  -- The word w carries this part: it is a word of the part's row, with the part's source (bits 9, 10), content (bits 14 to 29) and mark (bit 11).
+  -- The word w carries this part: it is a word of the part's row, with the part's source (bits 9, 10), content (bits 14 to 29) and good parity (bit 11).
   abbrev pub Carries : Part → ℕ → Type 0
   Carries (One s c) w = PartWord (a .label Part1) 11 0 w × (bits 9 10 w ≡ s) × (bits 14 29 w ≡ c)
   Carries (Two s c) w = PartWord (a .label Part2) 11 1 w × (bits 9 10 w ≡ s) × (bits 14 29 w ≡ c)
@@ -50,30 +51,44 @@ module _ (a : Assignment) where
 abbrev pub tested : (from code w : ℕ) → Part → PartIn
 tested from code w p = cond (eqb (bits from 13 w) 0) (cond (eqb (bits 30 31 w) code) (Carried p) (Refused Code)) (Refused ZeroBit)
 
+-- the part in the record's place, unless decoding refuses the word
+abbrev pub unlessRefused : Decoded → Part → PartIn
+unlessRefused (Decoded.Accepted r) p = Carried p
+unlessRefused (Decoded.Refused f) p = Refused f
+
 -- what the definitions say of a kind whose words are parts
 pub record PartKind (k : Kind) (from code : ℕ) (p : ℕ → Part) : Type 0 where
   pub zeros-are : (w : ℕ) → clear (wordLayout k) w ≡ eqb (bits from 13 w) 0
-  pub code-is : (w : ℕ) → verdict (rules k w) ≡ cond (eqb (bits 30 31 w) code) Verdict.Kept (Verdict.Broken Code)
-  pub part-is : (d : Decoded) (w : ℕ) → partOfKind k d w ≡ unlessRefused d (p w)
+  pub code-is : (w : ℕ) → judgement (rules k w) ≡ cond (eqb (bits 30 31 w) code) Judgement.Kept (Judgement.Broken Code)
+  pub known-is : partKind k ≡ Known k
+  pub part-is : (w : ℕ) → partOf (bits 9 10 w) (bodyOf k w) ≡ Carried (p w)
 
 and-true : (b : Bool) → (b && true) ≡ b
 and-true true = refl
 and-true false = refl
 
+bytes : (n a b : ℕ) → n ≡ a * 256 + b → b + 256 * a ≡ n
+bytes n a b e = omega arith
+
 pub part1 : PartKind Part1 11 0 (λ w. One (bits 9 10 w) (bits 14 29 w))
-part1 = record { zeros-are = λ w. and-true _; code-is = λ w. refl; part-is = λ d w. refl }
+part1 = record {
+  zeros-are = λ w. and-true _;
+  code-is = λ w. refl;
+  known-is = refl;
+  part-is = λ w. ap (λ (c : ℕ). Carried (One (bits 9 10 w) c)) (bytes (bits 14 29 w) (bits 22 29 w) (bits 14 21 w) (first-content w));
+}
 
 pub part2 : PartKind Part2 11 1 (λ w. Two (bits 9 10 w) (bits 14 29 w))
-part2 = record { zeros-are = λ w. and-true _; code-is = λ w. refl; part-is = λ d w. refl }
+part2 = record { zeros-are = λ w. and-true _; code-is = λ w. refl; known-is = refl; part-is = λ w. refl }
 
 pub part3 : PartKind Part3 11 2 (λ w. Three (bits 9 10 w) (bits 14 29 w))
-part3 = record { zeros-are = λ w. and-true _; code-is = λ w. refl; part-is = λ d w. refl }
+part3 = record { zeros-are = λ w. and-true _; code-is = λ w. refl; known-is = refl; part-is = λ w. refl }
 
 pub part4 : PartKind Part4 12 3 (λ w. Four (bits 9 10 w) (bits 14 29 w) (eqb (bits 11 11 w) 1))
-part4 = record { zeros-are = λ w. and-true _; code-is = λ w. refl; part-is = λ d w. refl }
+part4 = record { zeros-are = λ w. and-true _; code-is = λ w. refl; known-is = refl; part-is = λ w. refl }
 
 coded-tested : (t : Bool) (r : Record) (q : Part)
-    → unlessRefused (judged (cond t Verdict.Kept (Verdict.Broken Code)) r) q ≡ cond t (Carried q) (Refused Code)
+    → unlessRefused (judged (cond t Judgement.Kept (Judgement.Broken Code)) r) q ≡ cond t (Carried q) (Refused Code)
 coded-tested true r q = refl
 coded-tested false r q = refl
 
@@ -87,22 +102,28 @@ module _ {k : Kind} {from code : ℕ} {p : ℕ → Part} (r : PartKind k from co
   kind-tested =
       clear-tested (clear (wordLayout k) w) _ (p w)
       ∙ ap₂ (λ (z : Bool) (x : PartIn). cond z x (Refused ZeroBit)) (r .zeros-are w)
-      (ap (λ (v : Verdict). unlessRefused (judged v (recordOf k w)) (p w)) (r .code-is w) ∙ coded-tested (eqb (bits 30 31 w) code) (recordOf k w) (p w))
+      (ap (λ (v : Judgement). unlessRefused (judged v (recordOf k w)) (p w)) (r .code-is w) ∙ coded-tested (eqb (bits 30 31 w) code) (recordOf k w) (p w))
+
+  record-carried : (o z : Bool) (j : Judgement) → (d : Decoded) → d ≡ cond o (cond z (judged j (recordOf k w)) (Decoded.Refused ZeroBit)) (Decoded.Refused Parity)
+      → partRead d ≡ unlessRefused d (p w)
+  record-carried true true Judgement.Kept d e = ap partRead e ∙ r .part-is w ∙ ap (λ (x : Decoded). unlessRefused x (p w)) (sym e)
+  record-carried true true (Judgement.Broken f) d e = ap partRead e ∙ ap (λ (x : Decoded). unlessRefused x (p w)) (sym e)
+  record-carried true false j d e = ap partRead e ∙ ap (λ (x : Decoded). unlessRefused x (p w)) (sym e)
+  record-carried false z j d e = ap partRead e ∙ ap (λ (x : Decoded). unlessRefused x (p w)) (sym e)
 
   -- A word of a part's label is what decoding says of it, with the part in its record's place.
   pub agrees : labelOf w ≡ a .label k → partWith a w ≡ unlessRefused (decodeWith a w) (p w)
-  agrees l = by (odd w) refl
-    where
-      by : (b : Bool) → odd w ≡ b → partWith a w ≡ unlessRefused (decodeWith a w) (p w)
-      by false o = parity-broken a w o ∙ ap (λ (d : Decoded). unlessRefused d (p w)) (sym (decode-even a w o))
-      by true o =
-          parity-kept a w o ∙ ap (λ (x : Lookup). partFound x (decodeWith a w) w) (ap (a .kind) l ∙ a .found k) ∙ r .part-is (decodeWith a w) w
+  agrees l =
+      let found : a .kind (labelOf w) ≡ Known k = ap (a .kind) l ∙ a .found k in
+      ap (λ (x : Lookup). partRead (decodeAs x w)) (ap onlyParts found ∙ r .known-is)
+      ∙ record-carried (odd w) (clear (wordLayout k) w) (judgement (rules k w)) (decodeAs (Known k) w) refl
+      ∙ ap (λ (x : Lookup). unlessRefused (decodeAs x w) (p w)) (sym found)
 
   -- One of odd parity is refused 3 for a zero bit that is one, else 4 for its bits 31, 30, and else carries the part.
   pub agrees-tested : odd w ≡ true → labelOf w ≡ a .label k → partWith a w ≡ tested from code w (p w)
   agrees-tested o l =
       agrees l
-      ∙ ap (λ (d : Decoded). unlessRefused d (p w)) (decode-odd a w o ∙ ap (λ (x : Lookup). decodeFound x w) (ap (a .kind) l ∙ a .found k))
+      ∙ ap (λ (d : Decoded). unlessRefused d (p w)) (decode-odd (a .kind (labelOf w)) w o ∙ ap (λ (x : Lookup). decodeFound x w) (ap (a .kind) l ∙ a .found k))
       ∙ kind-tested
 
   row-carried : PartWord (a .label k) from code w → partWith a w ≡ Carried (p w)
@@ -119,21 +140,21 @@ data PartLookup : Lookup → Type 0 where
   is-part4 : PartLookup (Known Part4)
 
 abbrev LabelRefused : Lookup → Type 0
-LabelRefused l = (d : Decoded) (w : ℕ) → partFound l d w ≡ Refused Label
+LabelRefused l = onlyParts l ≡ Unknown
 
 lookups : (l : Lookup) → PartLookup l ⊎ LabelRefused l
-lookups Unknown = inr λ d w. refl
-lookups (Known VorAzimuth) = inr λ d w. refl
-lookups (Known VorFrequency) = inr λ d w. refl
-lookups (Known IlsCourse) = inr λ d w. refl
-lookups (Known IlsGlide) = inr λ d w. refl
-lookups (Known IlsFrequency) = inr λ d w. refl
-lookups (Known MlsFrequency) = inr λ d w. refl
-lookups (Known MlsAzimuthDeviation) = inr λ d w. refl
-lookups (Known MlsGlideDeviation) = inr λ d w. refl
-lookups (Known SelectedAzimuth) = inr λ d w. refl
-lookups (Known GreatestGlideAngle) = inr λ d w. refl
-lookups (Known SelectedGlideAngle) = inr λ d w. refl
+lookups Unknown = inr refl
+lookups (Known VorAzimuth) = inr refl
+lookups (Known VorFrequency) = inr refl
+lookups (Known IlsCourse) = inr refl
+lookups (Known IlsGlide) = inr refl
+lookups (Known IlsFrequency) = inr refl
+lookups (Known MlsFrequency) = inr refl
+lookups (Known MlsAzimuthDeviation) = inr refl
+lookups (Known MlsGlideDeviation) = inr refl
+lookups (Known SelectedAzimuth) = inr refl
+lookups (Known GreatestGlideAngle) = inr refl
+lookups (Known SelectedGlideAngle) = inr refl
 lookups (Known Part1) = inl is-part1
 lookups (Known Part2) = inl is-part2
 lookups (Known Part3) = inl is-part3
@@ -141,7 +162,7 @@ lookups (Known Part4) = inl is-part4
 
 module _ (a : Assignment) (w : ℕ) where
   found-refused : (l : Lookup) → odd w ≡ true → a .kind (labelOf w) ≡ l → LabelRefused l → partWith a w ≡ Refused Label
-  found-refused l o e q = parity-kept a w o ∙ ap (λ (x : Lookup). partFound x (decodeWith a w) w) e ∙ q (decodeWith a w) w
+  found-refused l o e q = ap (λ (x : Lookup). partRead (decodeAs x w)) (ap onlyParts e ∙ q) ∙ ap partRead (decode-odd Unknown w o)
 
   -- A word of odd parity and another label is refused 2, whatever else is wrong with it.
   pub other-label : odd w ≡ true → (labelOf w ≡ a .label Part1 → ⊥) → (labelOf w ≡ a .label Part2 → ⊥) → (labelOf w ≡ a .label Part3 → ⊥)

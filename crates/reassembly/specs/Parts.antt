@@ -1,11 +1,10 @@
--- What a word is to the reassembly of group C: the part that it carries, or its refusal. Document 01, "The word" and "Refusal numbers".
+-- What a word is to the reassembly of group C: the part that its record carries, or its refusal. Document 01, "The word" and "Refusal numbers".
 -- Assumes nothing.
-use Prim.Native.Nat.{ℕ}
-use mathlib.Core.Path.{_≡_}
-use mathlib.Core.Bool.{true, false, cond}
-use lib.Dec.{eqb}
-use Rattle.bits.specs.Fields.{bits}
+use Prim.Native.Nat.{ℕ, _+_, _*_}
+use mathlib.Core.Path.{_≡_, ap}
+use mathlib.Core.Bool.{false}
 use Rattle.bits.specs.Parity.{odd}
+use Rattle.records.specs.declared.Body.{Body}
 use Rattle.records.specs.declared.Kind.{Kind}
 use Rattle.records.specs.declared.Kind.the-variants.{VorAzimuth, VorFrequency, IlsCourse, IlsGlide, IlsFrequency, MlsFrequency, MlsAzimuthDeviation, MlsGlideDeviation, SelectedAzimuth, GreatestGlideAngle, SelectedGlideAngle, Part1, Part2, Part3, Part4}
 use Rattle.refusals.specs.declared.Refusal.the-variants.{Parity, Label}
@@ -14,52 +13,62 @@ use Rattle.labels.specs.Assignment.{Assignment, document01}
 use Rattle.labels.specs.declared.Lookup.{Lookup}
 use Rattle.labels.specs.declared.Lookup.the-variants.{Known, Unknown}
 use Rattle.decode.specs.declared.Decoded.{Decoded}
-use Rattle.decode.specs.Decode.{decodeWith}
-use Rattle.reassembly_parts.specs.declared.Part.{Part}
+use Rattle.decode.specs.Decode.{decodeAs, parity-broken as decode-even}
 use Rattle.reassembly_parts.specs.declared.Part.the-variants.{One, Two, Three, Four}
 use Rattle.reassembly.specs.declared.PartIn.{PartIn}
 use Rattle.reassembly.specs.declared.PartIn.the-variants.{Carried, Refused}
 
--- the part, unless decoding refuses the word
-abbrev pub unlessRefused : Decoded → Part → PartIn
-unlessRefused (Decoded.Accepted r) p = Carried p
-unlessRefused (Decoded.Refused f) p = Refused f
+-- Here the four parts alone have a label: a word of any other kind is one of unknown label, whatever else is wrong with it.
+abbrev pub partKind : Kind → Lookup
+partKind Part1 = Known Part1
+partKind Part2 = Known Part2
+partKind Part3 = Known Part3
+partKind Part4 = Known Part4
+partKind VorAzimuth = Unknown
+partKind VorFrequency = Unknown
+partKind IlsCourse = Unknown
+partKind IlsGlide = Unknown
+partKind IlsFrequency = Unknown
+partKind MlsFrequency = Unknown
+partKind MlsAzimuthDeviation = Unknown
+partKind MlsGlideDeviation = Unknown
+partKind SelectedAzimuth = Unknown
+partKind GreatestGlideAngle = Unknown
+partKind SelectedGlideAngle = Unknown
 
--- A word of each kind, beside what decoding says of it. The four parts carry their source (bits 9, 10) and content (bits 14 to 29), and part four
--- the parity mark (bit 11). Any other kind is refused for its label, whatever else is wrong with the word.
-abbrev pub partOfKind : Kind → Decoded → ℕ → PartIn
-partOfKind Part1 d w = unlessRefused d (One (bits 9 10 w) (bits 14 29 w))
-partOfKind Part2 d w = unlessRefused d (Two (bits 9 10 w) (bits 14 29 w))
-partOfKind Part3 d w = unlessRefused d (Three (bits 9 10 w) (bits 14 29 w))
-partOfKind Part4 d w = unlessRefused d (Four (bits 9 10 w) (bits 14 29 w) (eqb (bits 11 11 w) 1))
-partOfKind VorAzimuth d w = Refused Label
-partOfKind VorFrequency d w = Refused Label
-partOfKind IlsCourse d w = Refused Label
-partOfKind IlsGlide d w = Refused Label
-partOfKind IlsFrequency d w = Refused Label
-partOfKind MlsFrequency d w = Refused Label
-partOfKind MlsAzimuthDeviation d w = Refused Label
-partOfKind MlsGlideDeviation d w = Refused Label
-partOfKind SelectedAzimuth d w = Refused Label
-partOfKind GreatestGlideAngle d w = Refused Label
-partOfKind SelectedGlideAngle d w = Refused Label
+abbrev pub onlyParts : Lookup → Lookup
+onlyParts (Known k) = partKind k
+onlyParts Unknown = Unknown
 
-abbrev pub partFound : Lookup → Decoded → ℕ → PartIn
-partFound (Known k) d w = partOfKind k d w
-partFound Unknown d w = Refused Label
+-- The part that a record carries: its source and its 16 bits, in part one the word number below the content, and in part four whether the parity was good.
+abbrev pub partOf : ℕ → Body → PartIn
+partOf source (Body.Part1 number content) = Carried (One source (number + 256 * content))
+partOf source (Body.Part2 content) = Carried (Two source content)
+partOf source (Body.Part3 content) = Carried (Three source content)
+partOf source (Body.Part4 good content) = Carried (Four source content good)
+partOf source (Body.VorAzimuth status marker count) = Refused Label
+partOf source (Body.VorFrequency status frequency) = Refused Label
+partOf source (Body.IlsCourse status inhibit count) = Refused Label
+partOf source (Body.IlsGlide status inhibit count) = Refused Label
+partOf source (Body.IlsFrequency status category frequency) = Refused Label
+partOf source (Body.MlsFrequency status frequency) = Refused Label
+partOf source (Body.MlsAzimuthDeviation status inhibit clearance count) = Refused Label
+partOf source (Body.MlsGlideDeviation status inhibit clearance count) = Refused Label
+partOf source (Body.SelectedAzimuth status manual degrees) = Refused Label
+partOf source (Body.GreatestGlideAngle status tenths) = Refused Label
+partOf source (Body.SelectedGlideAngle status manual tenths) = Refused Label
 
--- a word, under an assignment of labels: parity first, then the label, then what decoding refuses
+abbrev pub partRead : Decoded → PartIn
+partRead (Decoded.Accepted r) = partOf (r .source) (r .body)
+partRead (Decoded.Refused f) = Refused f
+
+-- a word, under an assignment of labels: it is decoded by the labels of the parts
 abbrev pub partWith : Assignment → ℕ → PartIn
-partWith a w = cond (odd w) (partFound (a .kind (labelOf w)) (decodeWith a w) w) (Refused Parity)
+partWith a w = partRead (decodeAs (onlyParts (a .kind (labelOf w))) w)
 
 -- a word, under document 01's labels
 abbrev pub partIn : ℕ → PartIn
 partIn w = partWith document01 w
 
--- ---- one step of the order at a time
-
 pub parity-broken : (a : Assignment) (w : ℕ) → odd w ≡ false → partWith a w ≡ Refused Parity
-parity-broken a w p = rw p
-
-pub parity-kept : (a : Assignment) (w : ℕ) → odd w ≡ true → partWith a w ≡ partFound (a .kind (labelOf w)) (decodeWith a w) w
-parity-kept a w p = rw p
+parity-broken a w p = ap partRead (decode-even (onlyParts (a .kind (labelOf w))) w p)

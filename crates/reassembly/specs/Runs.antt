@@ -16,7 +16,7 @@ use Rattle.reassembly_parts.specs.declared.Group.{Group}
 use Rattle.reassembly_parts.specs.declared.Part.{Part}
 use Rattle.reassembly_parts.specs.declared.Part.the-variants.{One, Two, Three, Four}
 use Rattle.reassembly_parts.specs.declared.Reassembly.the-variants.{Empty}
-use Rattle.reassembly_parts.specs.Run.{Input, part, other, Outcome, answered, own, groupOf, outcomeOf, nextOf, outcomes, heldAfter, others, firstThree, firstThreeAnswers, words-completed, nothing-held as parts-held}
+use Rattle.reassembly_parts.specs.Run.{Input, part, other, Reply, answered, own, groupOf, replyOf, nextOf, replies, heldAfter, others, firstThree, firstThreeAnswers, words-completed, nothing-held as parts-held}
 use Rattle.reassembly_parts.specs.Provenance.{CompletedBy, completed-only-by}
 use Rattle.reassembly.specs.declared.PartIn.{PartIn}
 use Rattle.reassembly.specs.declared.PartIn.the-variants.{Carried, Refused}
@@ -73,11 +73,11 @@ inputOf (Refused f) = other f
 abbrev pub classify : ℕ → Input Refusal
 classify w = inputOf (partIn w)
 
-abbrev pub wordAnswer : Outcome Refusal → WordAnswer
+abbrev pub wordAnswer : Reply Refusal → WordAnswer
 wordAnswer (answered x) = answerOf x
 wordAnswer (own f) = WordAnswer.Refused f
 
-step-answer : (s : Reassembler) (x : PartIn) → stepOf s x .answer ≡ wordAnswer (outcomeOf (s .«group_c») (inputOf x))
+step-answer : (s : Reassembler) (x : PartIn) → stepOf s x .answer ≡ wordAnswer (replyOf (s .«group_c») (inputOf x))
 step-answer s (Carried p) = refl
 step-answer s (Refused f) = refl
 
@@ -85,12 +85,12 @@ step-next : (s : Reassembler) (x : PartIn) → stepOf s x .next ≡ record { «g
 step-next s (Carried p) = refl
 step-next s (Refused f) = refl
 
-pub answers-are : (s : Reassembler) (ws : List ℕ) → answers s ws ≡ map wordAnswer (outcomes (s .«group_c») (map classify ws))
+pub answers-are : (s : Reassembler) (ws : List ℕ) → answers s ws ≡ map wordAnswer (replies (s .«group_c») (map classify ws))
 answers-are s [] = refl
 answers-are s (w ∷ ws) =
     ap₂ (λ (x : WordAnswer) (l : List WordAnswer). x ∷ l) (step-answer s (partIn w))
     (answers-are (takeWord s w .next) ws
-    ∙ ap (λ (r : Reassembler). map wordAnswer (outcomes (r .«group_c») (map classify ws))) (step-next s (partIn w)))
+    ∙ ap (λ (r : Reassembler). map wordAnswer (replies (r .«group_c») (map classify ws))) (step-next s (partIn w)))
 
 pub after-is : (s : Reassembler) (ws : List ℕ) → after s ws ≡ record { «group_c» = heldAfter (s .«group_c») (map classify ws) }
 after-is s [] = refl
@@ -144,7 +144,7 @@ module _ (s : Reassembler) (earlier later : List ℕ) (w₁ w₂ w₃ w₄ : ℕ
       answers-are s ws
       ∙ ap (map wordAnswer)
       (words-completed classify ws (s .«group_c») (map classify earlier) (map classify later) _ _ _ _ _ _ f₁ f₂ f₃ words-are)
-      ∙ map-append wordAnswer (outcomes (s .«group_c») (map classify earlier)) _
+      ∙ map-append wordAnswer (replies (s .«group_c») (map classify earlier)) _
       ∙ ap₂ (λ (l m : List WordAnswer). l ++ m) (sym (answers-are s earlier))
       (map-append wordAnswer (firstThreeAnswers f₁ f₂ f₃) _
       ∙ ap₂ (λ (l m : List WordAnswer). l ++ (Complete (groupFrom w₁ w₂ w₃ w₄) ∷ m)) sequence-answered (sym (answers-are new later)))
@@ -160,7 +160,7 @@ module _ (s : Reassembler) (earlier later : List ℕ) (w₁ w₂ w₃ w₄ : ℕ
 -- ---- a group is given only then
 
 -- a run of answers that gives a group, seen as the answers of `reassembly_parts`
-complete-only : (o : Outcome Refusal) (g : Group) → wordAnswer o ≡ Complete g → o ≡ answered (Answer.Complete g)
+complete-only : (o : Reply Refusal) (g : Group) → wordAnswer o ≡ Complete g → o ≡ answered (Answer.Complete g)
 complete-only (answered Answer.Incomplete) g e = let z : _≡_ {A = ℕ} 0 1 = cc in absurd (omega arith)
 complete-only (answered (Answer.Complete h)) g e = let i : h ≡ g = cc in ap (λ (x : Group). answered (Answer.Complete x)) i
 complete-only (answered Answer.OutOfSequence) g e = let z : _≡_ {A = ℕ} 0 1 = cc in absurd (omega arith)
@@ -217,15 +217,15 @@ others-refused (x ∷ xs) (f ∷ fs) e =
 
 -- any state, seen as the parts that it holds: a group that is given comes from them and the words, parts 1 to 4 in sequence
 pub given-by : (s : Reassembler) (words : List ℕ) (before later : List WordAnswer) (g : Group) → answers s words ≡ before ++ (Complete g ∷ later)
-    → (os : List (Outcome Refusal)) × (map wordAnswer os ≡ before) × CompletedBy classify (s .«group_c») words os g
+    → (os : List (Reply Refusal)) × (map wordAnswer os ≡ before) × CompletedBy classify (s .«group_c») words os g
 given-by s words before later g e =
-    let c = cut wordAnswer (outcomes (s .«group_c») (map classify words)) before (Complete g ∷ later) (sym (answers-are s words) ∙ e) in
+    let c = cut wordAnswer (replies (s .«group_c») (map classify words)) before (Complete g ∷ later) (sym (answers-are s words) ∙ e) in
     let h = headed wordAnswer (c .back) (Complete g) later (c .back-is) in (
       c .front,
       c .front-is,
       completed-only-by classify (s .«group_c») words (c .front) (h .tail) g
-          (c .whole ∙ ap (λ (l : List (Outcome Refusal)). c .front ++ l)
-          (h .whole ∙ ap (λ (o : Outcome Refusal). o ∷ h .tail) (complete-only (h .head) g (h .head-is)))),
+          (c .whole ∙ ap (λ (l : List (Reply Refusal)). c .front ++ l)
+          (h .whole ∙ ap (λ (o : Reply Refusal). o ∷ h .tail) (complete-only (h .head) g (h .head-is)))),
     )
 
 -- How a group was given in a run of words from a new state, `before` being the answers before it.
@@ -265,7 +265,7 @@ given-only-by words before later g e =
     let p₁ = carried-by (h₁ .head) (One (k .source) (k .first)) (h₁ .head-is) in
     let p₂ = carried-by (h₂ .head) (Two (k .source) (k .second)) (h₂ .head-is) in
     let p₃ = carried-by (h₃ .head) (Three (k .source) (k .third)) (h₃ .head-is) in
-    let p₄ = carried-by (k .word) (Four (k .source) (k .fourth) (k .mark)) (k .is-fourth) in
+    let p₄ = carried-by (k .word) (Four (k .source) (k .fourth) (k .good)) (k .is-fourth) in
     let b : k .before ≡ c₁ .front ++ sequence (h₁ .head) (h₂ .head) (h₃ .head) (c₂ .front) (c₃ .front) (h₃ .tail) =
     c₁ .whole ∙ ap (λ (l : List ℕ). c₁ .front ++ l)
     (h₁ .whole ∙ ap (λ (l : List ℕ). h₁ .head ∷ l)
@@ -316,6 +316,6 @@ given-only-after history words before later g e =
 worked :
     answers new (0x1FFC0306 ∷ 0xBFFFE386 ∷ 0x04C80038 ∷ 0xD09F2346 ∷ 0x724B07C6 ∷ 0x724B07C6 ∷ [])
     ≡ Incomplete ∷ Incomplete ∷ WordAnswer.Refused Refusal.Label ∷ Incomplete
-    ∷ Complete (record { bits = 10545324736764706784; mark = true }) ∷ WordAnswer.Refused Refusal.Sequence ∷ []
+    ∷ Complete (record { bits = 10545324736764706784; «parity_good» = true }) ∷ WordAnswer.Refused Refusal.Sequence ∷ []
 unfolding onesIn rowOf
 worked = refl

@@ -6,10 +6,11 @@ use reassembly_parts::Group;
 use reassembly_parts::Part;
 use reassembly_parts::Reassembly;
 use reassembly_parts::Step;
+use records::Body;
 use records::Kind;
 use refusals::Refusal;
 ghost use mathlib.Core.Path.{_≡_};
-ghost use Rattle.reassembly.specs.Parts.{unlessRefused, partOfKind, partIn};
+ghost use Rattle.reassembly.specs.Parts.{partKind, onlyParts, partOf, partIn};
 ghost use Rattle.reassembly.specs.Step.{new, answerOf, stepped, takeWord};
 
 // What a word is to a reassembly.
@@ -41,35 +42,51 @@ pub struct WordStep {
     pub answer: WordAnswer,
 }
 
-// The part, unless the word is refused.
-fn unless_refused(decoded: Decoded, part: Part) -> PartIn
-    ensures { λ r. ⌜ r ≡ unlessRefused decoded part ⌝ }
+// The kind of a part; any other kind as an unknown label.
+fn part_kind(kind: Kind) -> Lookup
+    ensures { λ r. ⌜ r ≡ partKind kind ⌝ }
 {
-    match decoded {
-        Decoded::Accepted(_) => PartIn::Carried(part),
-        Decoded::Refused(refusal) => PartIn::Refused(refusal),
+    match kind {
+        Kind::Part1 => Lookup::Known(Kind::Part1),
+        Kind::Part2 => Lookup::Known(Kind::Part2),
+        Kind::Part3 => Lookup::Known(Kind::Part3),
+        Kind::Part4 => Lookup::Known(Kind::Part4),
+        _ => Lookup::Unknown,
     }
 }
 
-// What a word of odd parity and a known kind is, beside what decoding says of it.
-fn part_of_kind(kind: Kind, decoded: Decoded, word: u32) -> PartIn
-    ensures { λ r. ⌜ r ≡ partOfKind kind decoded word ⌝ }
+// What a label stands for among the parts.
+fn only_parts(lookup: Lookup) -> Lookup
+    ensures { λ r. ⌜ r ≡ onlyParts lookup ⌝ }
 {
-    let source = (word / 256 % 4) as u8;
-    let content = (word / 8192 % 65536) as u16;
-    let mark = word / 1024 % 2 == 1;
-    match kind {
-        Kind::Part1 => unless_refused(decoded, Part::One { source, content }),
-        Kind::Part2 => unless_refused(decoded, Part::Two { source, content }),
-        Kind::Part3 => unless_refused(decoded, Part::Three { source, content }),
-        Kind::Part4 => unless_refused(
-            decoded,
-            Part::Four {
-                source,
-                content,
-                mark,
-            },
-        ),
+    match lookup {
+        Lookup::Known(kind) => part_kind(kind),
+        Lookup::Unknown => Lookup::Unknown,
+    }
+}
+
+// The part that a record carries.
+fn part_of(source: u8, body: Body) -> PartIn
+    ensures { λ r. ⌜ r ≡ partOf source body ⌝ }
+{
+    match body {
+        Body::Part1 {
+            word_number,
+            content,
+        } => PartIn::Carried(Part::One {
+            source,
+            content: word_number as u16 + 256 * (content as u16),
+        }),
+        Body::Part2 { content } => PartIn::Carried(Part::Two { source, content }),
+        Body::Part3 { content } => PartIn::Carried(Part::Three { source, content }),
+        Body::Part4 {
+            parity_good,
+            content,
+        } => PartIn::Carried(Part::Four {
+            source,
+            content,
+            parity_good,
+        }),
         _ => PartIn::Refused(Refusal::Label),
     }
 }
@@ -78,12 +95,13 @@ fn part_of_kind(kind: Kind, decoded: Decoded, word: u32) -> PartIn
 pub fn part_in(word: u32) -> PartIn
     ensures { λ r. ⌜ r ≡ partIn word ⌝ }
 {
-    if !bits::is_odd(word) {
-        return PartIn::Refused(Refusal::Parity);
-    }
-    match labels::find_kind(labels::label_of(word)) {
-        Lookup::Known(kind) => part_of_kind(kind, decode::decode(word), word),
-        Lookup::Unknown => PartIn::Refused(Refusal::Label),
+    match decode::decode_as(only_parts(labels::kind_in(word)), word) {
+        Decoded::Accepted(record) => {
+            let source = record.source;
+            let body = record.body;
+            part_of(source, body)
+        }
+        Decoded::Refused(refusal) => PartIn::Refused(refusal),
     }
 }
 

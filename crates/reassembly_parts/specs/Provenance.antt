@@ -14,7 +14,7 @@ use Rattle.reassembly_parts.specs.declared.Reassembly.the-variants.{Empt
 use Rattle.reassembly_parts.specs.declared.Step.{Step}
 use Rattle.reassembly_parts.specs.Take.{takeOf}
 use Rattle.reassembly_parts.specs.Sequence.{InSequence, first, second, third, fourth, sequence, second-taken, third-taken, fourth-taken}
-use Rattle.reassembly_parts.specs.Run.{Input, part, other, Outcome, answered, groupOf, outcomeOf, nextOf, outcomes, heldAfter, others, firstThree}
+use Rattle.reassembly_parts.specs.Run.{Input, part, other, Reply, answered, groupOf, replyOf, nextOf, replies, heldAfter, others, firstThree}
 
 module _ {R : Type 0} where
   -- the parts that are held, in order
@@ -94,23 +94,23 @@ pub record Completes (held : Reassembly) (p : Part) (g : Group) : Type 0 where
   pub second : ℕ
   pub third : ℕ
   pub fourth : ℕ
-  pub mark : Bool
+  pub good : Bool
   pub holding : held ≡ AfterThree source first second third
-  pub last : p ≡ Four source fourth mark
-  pub group : g ≡ groupOf first second third fourth mark
+  pub last : p ≡ Four source fourth good
+  pub group : g ≡ groupOf first second third fourth good
 
 completes-taken : (held : Reassembly) (p : Part) (g : Group) → InSequence held p → takeOf held p .answer ≡ Complete g → Completes held p g
 completes-taken held p g first h = let z : _≡_ {A = ℕ} 0 1 = cc in absurd (omega arith)
 completes-taken held p g (second {s} {a} {b}) h = let z : _≡_ {A = ℕ} 0 1 = cc (second-taken s a b) in absurd (omega arith)
 completes-taken held p g (third {s} {a} {b} {c}) h = let z : _≡_ {A = ℕ} 0 1 = cc (third-taken s a b c) in absurd (omega arith)
 completes-taken held p g (fourth {s} {a} {b} {c} {d} {m}) h =
-    record { source = s; first = a; second = b; third = c; fourth = d; mark = m; holding = refl; last = refl; group = cc (fourth-taken s a b c d m) }
+    record { source = s; first = a; second = b; third = c; fourth = d; good = m; holding = refl; last = refl; group = cc (fourth-taken s a b c d m) }
 
 completes : (held : Reassembly) (p : Part) (g : Group) → takeOf held p .answer ≡ Complete g → Completes held p g
 completes held p g h = ⊎-elim (λ i. completes-taken held p g i h) (λ e. let z : _≡_ {A = ℕ} 0 1 = cc in absurd (omega arith)) (sequence held p)
 
 module _ {R : Type 0} where
-  completing : (held : Reassembly) (x : Input R) (g : Group) → outcomeOf held x ≡ answered (Complete g) → (p : Part) × (x ≡ part p) × Completes held p g
+  completing : (held : Reassembly) (x : Input R) (g : Group) → replyOf held x ≡ answered (Complete g) → (p : Part) × (x ≡ part p) × Completes held p g
   completing held (part p) g e = (p, refl, completes held p g (cc))
   completing held (other r) g e = let z : _≡_ {A = ℕ} 0 1 = cc in absurd (omega arith)
 
@@ -121,39 +121,39 @@ module _ {R : Type 0} where
 -- Any words, and any rule that tells what each of them is.
 module _ {W R : Type 0} (classify : W → Input R) where
   -- how the group g was completed in a run of words, `answers` being the answers before it
-  pub record CompletedBy (start : Reassembly) (words : List W) (answers : List (Outcome R)) (g : Group) : Type 0 where
+  pub record CompletedBy (start : Reassembly) (words : List W) (answers : List (Reply R)) (g : Group) : Type 0 where
     -- the word that completed it, and those before and after
     pub before : List W
     pub word : W
     pub after : List W
     pub words-are : words ≡ before ++ (word ∷ after)
-    pub answers-are : answers ≡ outcomes start (map classify before)
+    pub answers-are : answers ≡ replies start (map classify before)
     -- it is part four, and what is held at the start, followed by the words before, ends with the three others in sequence
     pub source : ℕ
     pub first : ℕ
     pub second : ℕ
     pub third : ℕ
     pub fourth : ℕ
-    pub mark : Bool
-    pub is-fourth : classify word ≡ part (Four source fourth mark)
+    pub good : Bool
+    pub is-fourth : classify word ≡ part (Four source fourth good)
     pub earlier : List (Input R)
     pub r₁ : List R
     pub r₂ : List R
     pub r₃ : List R
     pub first-three : stored start ++ map classify before ≡ earlier ++ firstThree source first second third r₁ r₂ r₃
     -- and the group is theirs
-    pub group : g ≡ groupOf first second third fourth mark
+    pub group : g ≡ groupOf first second third fourth good
 
-  record Located (start : Reassembly) (words : List W) (answers : List (Outcome R)) (o : Outcome R) : Type 0 where
+  record Located (start : Reassembly) (words : List W) (answers : List (Reply R)) (o : Reply R) : Type 0 where
     before : List W
     word : W
     after : List W
     words-are : words ≡ before ++ (word ∷ after)
-    answers-are : answers ≡ outcomes start (map classify before)
-    is : outcomeOf (heldAfter start (map classify before)) (classify word) ≡ o
+    answers-are : answers ≡ replies start (map classify before)
+    is : replyOf (heldAfter start (map classify before)) (classify word) ≡ o
 
-  locate : (start : Reassembly) (words : List W) (answers : List (Outcome R)) (o : Outcome R) (later : List (Outcome R))
-      → outcomes start (map classify words) ≡ answers ++ (o ∷ later) → Located start words answers o
+  locate : (start : Reassembly) (words : List W) (answers : List (Reply R)) (o : Reply R) (later : List (Reply R))
+      → replies start (map classify words) ≡ answers ++ (o ∷ later) → Located start words answers o
   locate start [] [] o later e = absurd (nil≢cons e)
   locate start [] (a ∷ rest) o later e = absurd (nil≢cons e)
   locate start (w ∷ ws) [] o later e =
@@ -165,13 +165,13 @@ module _ {W R : Type 0} (classify : W → Input R) where
         word = l .word;
         after = l .after;
         words-are = ap (λ (r : List W). w ∷ r) (l .words-are);
-        answers-are = ap₂ (λ (b : Outcome R) (r : List (Outcome R)). b ∷ r) (sym (head-eq-of-cons-eq e)) (l .answers-are);
+        answers-are = ap₂ (λ (b : Reply R) (r : List (Reply R)). b ∷ r) (sym (head-eq-of-cons-eq e)) (l .answers-are);
         is = l .is;
       }
 
   -- Wherever a run of words gives a group, it was completed so.
-  pub completed-only-by : (start : Reassembly) (words : List W) (answers later : List (Outcome R)) (g : Group)
-      → outcomes start (map classify words) ≡ answers ++ (answered (Complete g) ∷ later) → CompletedBy start words answers g
+  pub completed-only-by : (start : Reassembly) (words : List W) (answers later : List (Reply R)) (g : Group)
+      → replies start (map classify words) ≡ answers ++ (answered (Complete g) ∷ later) → CompletedBy start words answers g
   completed-only-by start words answers later g e =
       let l = locate start words answers (answered (Complete g)) later e in
       let xs = map classify (l .before) in
@@ -190,7 +190,7 @@ module _ {W R : Type 0} (classify : W → Input R) where
         second = k .second;
         third = k .third;
         fourth = k .fourth;
-        mark = k .mark;
+        good = k .good;
         is-fourth = f .1 ∙ ap part (k .last);
         earlier = t .0;
         r₁ = t .1;

@@ -22,7 +22,7 @@ taken r = record { next = r; answer = Incomplete }
 
 -- the group is complete, and nothing is held
 abbrev pub completed : ℕ → Bool → Step
-completed bits mark = record { next = Empty; answer = Complete (record { bits = bits; mark = mark }) }
+completed bits good = record { next = Empty; answer = Complete (record { bits = bits; «parity_good» = good }) }
 
 -- the part is refused (14 of document 01), and what was partial is dropped
 abbrev pub dropped : Step

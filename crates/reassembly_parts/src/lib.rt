@@ -2,7 +2,7 @@
 ghost use mathlib.Core.Path.{_≡_};
 ghost use Rattle.reassembly_parts.specs.Take.{takeOf, taken, dropped, fromSame, bitsOf};
 
-// One part of a group: the source of its word, bits 14 to 29 as a number, and in part four the parity mark, bit 11.
+// One part of a group: the source of its word, bits 14 to 29 as a number, and in part four whether the parity was good, bit 11.
 pub enum Part {
     One {
         source: u8,
@@ -19,14 +19,14 @@ pub enum Part {
     Four {
         source: u8,
         content: u16,
-        mark: bool,
+        parity_good: bool,
     },
 }
 
-// A complete group: bits 13 to 76 of the received MLS word, bit 13 lowest, and the mark that its parity was good.
+// A complete group: bits 13 to 76 of the received MLS word, bit 13 lowest, and whether its parity was good.
 pub struct Group {
     pub bits: u64,
-    pub mark: bool,
+    pub parity_good: bool,
 }
 
 // What a part is answered.
@@ -72,8 +72,8 @@ impl Reassembly {
             Part::Four {
                 source,
                 content,
-                mark,
-            } => self.take_four(source, content, mark),
+                parity_good,
+            } => self.take_four(source, content, parity_good),
         }
     }
 
@@ -108,8 +108,8 @@ impl Reassembly {
     }
 
     // Takes part four.
-    fn take_four(self, source: u8, content: u16, mark: bool) -> Step
-        ensures { λ r. ⌜ r ≡ takeOf self (Part.Four source content mark) ⌝ }
+    fn take_four(self, source: u8, content: u16, parity_good: bool) -> Step
+        ensures { λ r. ⌜ r ≡ takeOf self (Part.Four source content «parity_good») ⌝ }
     {
         match self {
             Reassembly::Empty => out_of_sequence(),
@@ -120,7 +120,7 @@ impl Reassembly {
                     next: Reassembly::Empty,
                     answer: Answer::Complete(Group {
                         bits: join(first, second, third, content),
-                        mark,
+                        parity_good,
                     }),
                 };
                 from_same(held, source, complete)

@@ -1,9 +1,11 @@
--- The list of all kinds: what one computed test or equation of the whole list says of each of them.
+-- The list of all kinds, and the place of each: what one computed test or equation of the whole list says of each of them.
 -- Assumes nothing.
-use mathlib.Core.Path.{_≡_, sym, subst}
+use mathlib.Core.Path.{_≡_, refl, sym, ap, _∙_, subst}
 use mathlib.Core.Bool.{Bool, true}
 use mathlib.Core.List.{List, [], _∷_, map, head-eq-of-cons-eq, tail-eq-of-cons-eq}
+use Prim.Native.Nat.{ℕ, _-_}
 use lib.Dec.{T}
+use lib.ListN.{getD}
 use Rattle.records.specs.declared.Kind.{Kind}
 use Rattle.records.specs.declared.Kind.the-variants.{VorAzimuth, VorFrequency, IlsCourse, IlsGlide, IlsFrequency, MlsFrequency, MlsAzimuthDeviation, MlsGlideDeviation, SelectedAzimuth, GreatestGlideAngle, SelectedGlideAngle, Part1, Part2, Part3, Part4}
 
@@ -46,3 +48,28 @@ agree f g e = each (λ k. f k ≡ g k) (agreed f g kinds e)
 -- a test that the list passes, every kind passes
 pub every : (p : Kind → Bool) → map p kinds ≡ map (λ k. true) kinds → (k : Kind) → T (p k)
 every p e k = subst T (sym (agree p (λ k. true) e k)) tt
+
+-- a kind's place in the list, counted from 1
+abbrev pub placeOf : Kind → ℕ
+placeOf VorAzimuth = 1
+placeOf VorFrequency = 2
+placeOf IlsCourse = 3
+placeOf IlsGlide = 4
+placeOf IlsFrequency = 5
+placeOf MlsFrequency = 6
+placeOf MlsAzimuthDeviation = 7
+placeOf MlsGlideDeviation = 8
+placeOf SelectedAzimuth = 9
+placeOf GreatestGlideAngle = 10
+placeOf SelectedGlideAngle = 11
+placeOf Part1 = 12
+placeOf Part2 = 13
+placeOf Part3 = 14
+placeOf Part4 = 15
+
+pub placed : (k : Kind) → getD kinds (placeOf k - 1) VorAzimuth ≡ k
+placed = agree (λ k. getD kinds (placeOf k - 1) VorAzimuth) (λ k. k) refl
+
+-- so kinds of one place are one kind
+pub one-place : (j k : Kind) → placeOf j ≡ placeOf k → j ≡ k
+one-place j k e = sym (placed j) ∙ ap (λ (n : ℕ). getD kinds (n - 1) VorAzimuth) e ∙ placed k

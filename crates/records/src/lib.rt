@@ -3,6 +3,7 @@ use codes::Category;
 use codes::Marker;
 use codes::Status;
 ghost use mathlib.Core.Path.{_≡_};
+ghost use Rattle.records.specs.All.{placeOf};
 ghost use Rattle.records.specs.Kinds.{kindOf};
 
 // What a word is about.
@@ -134,5 +135,28 @@ pub fn kind_of(body: Body) -> Kind
         Body::Part2 { .. } => Kind::Part2,
         Body::Part3 { .. } => Kind::Part3,
         Body::Part4 { .. } => Kind::Part4,
+    }
+}
+
+// A kind's place in document 01's table, from 1 to 15.
+pub fn place_of(kind: Kind) -> u8
+    ensures { λ r. ⌜ r ≡ placeOf kind ⌝ }
+{
+    match kind {
+        Kind::VorAzimuth => 1,
+        Kind::VorFrequency => 2,
+        Kind::IlsCourse => 3,
+        Kind::IlsGlide => 4,
+        Kind::IlsFrequency => 5,
+        Kind::MlsFrequency => 6,
+        Kind::MlsAzimuthDeviation => 7,
+        Kind::MlsGlideDeviation => 8,
+        Kind::SelectedAzimuth => 9,
+        Kind::GreatestGlideAngle => 10,
+        Kind::SelectedGlideAngle => 11,
+        Kind::Part1 => 12,
+        Kind::Part2 => 13,
+        Kind::Part3 => 14,
+        Kind::Part4 => 15,
     }
 }

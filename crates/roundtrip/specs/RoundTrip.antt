@@ -1,4 +1,4 @@
--- Decoding and encoding give each other back, under every assignment of labels.
+-- Decoding and encoding give each other back: for one word and its label, and so under every assignment of labels.
 -- Assumes nothing.
 use mathlib.Core.Path.{_≡_, refl, sym, ap, ap₂, _∙_, subst}
 use mathlib.Core.Bool.{Bool, true, false, cond, _&&_}
@@ -21,14 +21,15 @@ use Rattle.records.specs.declared.Record.{Record}
 use Rattle.refusals.specs.declared.Refusal.{Refusal}
 use Rattle.labels.specs.Label.{labelOf, label-low, label-byte, label-twice, label-lt}
 use Rattle.labels.specs.Assignment.{Assignment}
+use Rattle.labels.specs.declared.Lookup.{Lookup}
 use Rattle.decode.specs.Rules.{rules, bodyOf}
-use Rattle.decode.specs.Decode.{recordOf, decodeWith}
+use Rattle.decode.specs.Decode.{recordOf, decodeAs, decodeWith}
 use Rattle.decode.specs.declared.Decoded.{Decoded}
 use Rattle.encode.specs.Fields.{fieldsOf, statusBits}
-use Rattle.encode.specs.Encode.{codesListed, valuesLegal, lowerBits, wordOf, encodeWith, all-legal}
+use Rattle.encode.specs.Encode.{codesListed, valuesLegal, lowerAs, wordAs, wordOf, recordLabel, encodeUnder, encodeAs, encodeWith}
 use Rattle.encode.specs.Laws.{fields-fit, lower-lt}
 use Rattle.encode.specs.declared.Encoded.{Encoded}
-use Rattle.roundtrip.specs.Reading.{Kept, Reads, accepts, accepted}
+use Rattle.roundtrip.specs.Reading.{ReadsAs, accepts, accepted-as}
 use Rattle.roundtrip.specs.Back.{Writes, back}
 use Rattle.roundtrip.specs.Forth.{Holds, at, forth}
 
@@ -44,27 +45,45 @@ lower-back k w z =
     (clear-last (lowerLayout k) 31 1 w .0 (clear-test (wordLayout k) w .0 z))
     ∙ ap₂ (λ (x n : ℕ). x % 2 ^ n) (div-one w) (lower-size k)
 
-word-back : (a : Assignment) (w : ℕ) (k : Kind) → w < 2 ^ 32 → Reads a w k → wordOf a (recordOf k w) ≡ w
-word-back a w k h r =
+word-back : (l : Lookup) (w : ℕ) (k : Kind) → w < 2 ^ 32 → ReadsAs l w k → wordAs (labelOf w) (recordOf k w) ≡ w
+word-back l w k h r =
     let b = back k w (r .kept) in
-    let byte : labelOf (a .label k) ≡ bits 1 8 w = ap labelOf (a .only (labelOf w) k (r .label)) ∙ label-byte w in
-    let lower : lowerBits a (recordOf k w) ≡ w % 2 ^ 31 =
-    (λ i.
-    join (lowerLayout (b .kind i))
-    (labelOf (a .label (b .kind i)) ∷ bits 9 10 w ∷ (b .fields i ++ (b .status i ∷ []))))
-    ∙ ap (λ (x : ℕ). join (lowerLayout k) (x ∷ bits 9 10 w ∷ (split (layout k) w ++ (bits 30 31 w ∷ [])))) byte
+    let lower : lowerAs (labelOf w) (recordOf k w) ≡ w % 2 ^ 31 =
+    (λ i. join (lowerLayout (b .kind i)) (label-byte w i ∷ bits 9 10 w ∷ (b .fields i ++ (b .status i ∷ []))))
     ∙ ap (λ (vs : List ℕ). join (lowerLayout k) (bits 1 8 w ∷ bits 9 10 w ∷ vs)) (sym (split-last (layout k) 29 2 w))
     ∙ lower-back k w (r .zeros) in
     ap (withParity 31) lower ∙ parity-only 31 w (lit< tt) h (r .parity)
 
--- an accepted word's record gives the word
-pub decode-encode : (a : Assignment) (w : ℕ) (r : Record) → w < 2 ^ 32 → decodeWith a w ≡ Decoded.Accepted r → encodeWith a r ≡ Encoded.Word w
-decode-encode a w r h e =
-    let s = accepted a w r e in
+legal-under : (l : ℕ) (r : Record) → (leb (r .source) 3 && codesListed (r .body)) ≡ true → valuesLegal (r .body) ≡ true → encodeUnder l r ≡ Encoded.Word (wordAs l r)
+legal-under l r c v = rw (c, v)
+
+-- an accepted word is of the kind that was looked up, and its record under its label gives the word
+record Rewritten (l : Lookup) (w : ℕ) (r : Record) : Type 0 where
+  found : l ≡ Lookup.Known (kindOf (r .body))
+  word : encodeUnder (labelOf w) r ≡ Encoded.Word w
+
+rewritten : (l : Lookup) (w : ℕ) (r : Record) → w < 2 ^ 32 → decodeAs l w ≡ Decoded.Accepted r → Rewritten l w r
+rewritten l w r h e =
+    let s = accepted-as l w r e in
     let k = s .0 in
     let b = back k w (s .1 .kept) in
     let c = ap₂ _&&_ (le-leb (bits 9 10 w) 3 (omega (arith, mod-lt (w / 2 ^ 8) (pow-pos 2)))) (b .codes) in
-    ap (encodeWith a) (s .2) ∙ all-legal a (recordOf k w) c (b .values) ∙ ap Encoded.Word (word-back a w k h (s .1))
+    record {
+      found = s .1 .label ∙ ap Lookup.Known (sym (ap (λ (q : Record). kindOf (q .body)) (s .2) ∙ b .kind));
+      word = ap (encodeUnder (labelOf w)) (s .2) ∙ legal-under (labelOf w) (recordOf k w) c (b .values) ∙ ap Encoded.Word (word-back l w k h (s .1));
+    }
+
+-- an accepted word's record, under the word's label, gives the word, whatever its label was looked up in
+pub decode-encode-as : (l : Lookup) (w : ℕ) (r : Record) → w < 2 ^ 32 → decodeAs l w ≡ Decoded.Accepted r → encodeAs (labelOf w) r ≡ Encoded.Word w
+decode-encode-as l w r h e =
+    ap (λ (b : Bool). cond b (encodeUnder (labelOf w) r) (Encoded.Refused Refusal.Label)) (le-leb (labelOf w) 255 (omega (arith, label-lt w)))
+    ∙ rewritten l w r h e .word
+
+-- and so does its record under an assignment
+pub decode-encode : (a : Assignment) (w : ℕ) (r : Record) → w < 2 ^ 32 → decodeWith a w ≡ Decoded.Accepted r → encodeWith a r ≡ Encoded.Word w
+decode-encode a w r h e =
+    let b = rewritten (a .kind (labelOf w)) w r h e in
+    ap (λ (l : ℕ). encodeUnder l r) (a .only (labelOf w) (kindOf (r .body)) (b .found)) ∙ b .word
 
 -- ---- a record, encoded and decoded
 
@@ -82,68 +101,91 @@ cond-word : (b : Bool) (d : Encoded) (f : Refusal) (w : ℕ) → cond b d (Encod
 cond-word true d f w e = (refl, e)
 cond-word false d f w e = absurd (let z : 0 ≡ 1 = ap isWord e in omega arith)
 
-pub written : (a : Assignment) (r : Record) (w : ℕ) → encodeWith a r ≡ Encoded.Word w → Written r × (wordOf a r ≡ w)
-written a r w e =
+written-under : (l : ℕ) (r : Record) (w : ℕ) → encodeUnder l r ≡ Encoded.Word w → Written r × (wordAs l r ≡ w)
+written-under l r w e =
     let c = cond-word (leb (r .source) 3 && codesListed (r .body)) _ Refusal.Code w e in
     let v = cond-word (valuesLegal (r .body)) _ Refusal.Value w (c .1) in
     let b = both-true (leb (r .source) 3) (codesListed (r .body)) (c .0) in
-    let u : wordOf a r ≡ w = cc in
+    let u : wordAs l r ≡ w = cc in
     (record { source = b .0; codes = b .1; values = v .0 }, u)
 
-module _ (a : Assignment) (r : Record) (l : Written r) where
+pub written : (a : Assignment) (r : Record) (w : ℕ) → encodeWith a r ≡ Encoded.Word w → Written r × (wordOf a r ≡ w)
+written a r w e = written-under (recordLabel a r) r w e
+
+module _ (n : ℕ) (r : Record) (l : Written r) where
   source-lt : r .source < 4
   source-lt = omega (arith, leb-true (r .source) 3 (l .source))
 
   byte : ℕ
-  byte = labelOf (a .label (kindOf (r .body)))
+  byte = labelOf n
 
   values : List ℕ
   values = byte ∷ r .source ∷ (fieldsOf (r .body) ++ (statusBits (r .body) ∷ []))
 
   values-fit : Fit (lowerLayout (kindOf (r .body))) values
   unfolding values byte
-  values-fit = (label-lt (a .label (kindOf (r .body))), (source-lt, fields-fit (r .body) (l .values)))
+  values-fit = (label-lt n, (source-lt, fields-fit (r .body) (l .values)))
 
-  lower-small : lowerBits a r < 2 ^ 31
-  lower-small = lower-lt a r source-lt (l .values)
+  lower-small : lowerAs n r < 2 ^ 31
+  lower-small = lower-lt n r source-lt (l .values)
 
   -- the word of the record holds its values and zeros between them
-  held : (split (wordLayout (kindOf (r .body))) (wordOf a r) ≡ values ++ (parityBit (lowerBits a r) ∷ []))
-      × Clear (wordLayout (kindOf (r .body))) (wordOf a r)
+  held : (split (wordLayout (kindOf (r .body))) (wordAs n r) ≡ values ++ (parityBit (lowerAs n r) ∷ []))
+      × Clear (wordLayout (kindOf (r .body))) (wordAs n r)
   unfolding values byte
   held =
       let k : Kind = kindOf (r .body) in
-      let p : ℕ = parityBit (lowerBits a r) in
-      let j : join (wordLayout k) (values ++ (p ∷ [])) * 2 ^ 0 + 0 ≡ wordOf a r =
+      let p : ℕ = parityBit (lowerAs n r) in
+      let j : join (wordLayout k) (values ++ (p ∷ [])) * 2 ^ 0 + 0 ≡ wordAs n r =
       omega (
         arith,
         join-last (lowerLayout k) values 31 1 p values-fit
-            ∙ ap (λ (n : ℕ). p * 2 ^ n + lowerBits a r) (lower-size k),
+            ∙ ap (λ (m : ℕ). p * 2 ^ m + lowerAs n r) (lower-size k),
       ) in
       subst (λ (x : ℕ). (split (wordLayout k) x ≡ values ++ (p ∷ [])) × Clear (wordLayout k) x) j
       (split-join 0 (wordLayout k) (values ++ (p ∷ [])) 0 (whole k)
       (fit-last (lowerLayout k) values 31 1 p values-fit (omega arith)) (lit< tt))
 
-  record-read : decodeWith a (wordOf a r) ≡ Decoded.Accepted r
+  label-back : n < 256 → labelOf (wordAs n r) ≡ n
+  unfolding values byte
+  label-back short = sym (label-low (wordAs n r)) ∙ ap labelOf (at 0 (held .0)) ∙ label-twice n short
+
+  record-read : decodeAs (Lookup.Known (kindOf (r .body))) (wordAs n r) ≡ Decoded.Accepted r
   unfolding values byte
   record-read =
       let k : Kind = kindOf (r .body) in
-      let w : ℕ = wordOf a r in
-      let f = forth (r .body) byte (r .source) (parityBit (lowerBits a r)) w (l .codes) (l .values) (held .0) in
-      let label : labelOf w ≡ a .label k =
-      sym (label-low w) ∙ ap labelOf (at 0 (held .0)) ∙ label-twice (a .label k) (a .short k) in
-      accepts a w k
+      let w : ℕ = wordAs n r in
+      let f = forth (r .body) byte (r .source) (parityBit (lowerAs n r)) w (l .codes) (l .values) (held .0) in
+      accepts (Lookup.Known k) w k
       (record {
-        parity = parity-odd 31 (lowerBits a r) (lit< tt) lower-small;
-        label = ap (a .kind) label ∙ a .found k;
+        parity = parity-odd 31 (lowerAs n r) (lit< tt) lower-small;
+        label = refl;
         zeros = clear-test (wordLayout k) w .1 (held .1);
         kept = f .0;
       })
       ∙ (λ i. Decoded.Accepted (record { source = at 1 (held .0) i; body = f .1 i }))
 
--- a record that is written gives a word of 32 bits, and the word gives the record
+-- what a word is that a record under a label gives: of 32 bits, with that label, and decoded as the record's kind it gives the record
+pub record ReadBack (l : ℕ) (r : Record) (w : ℕ) : Type 0 where
+  pub short : w < 2 ^ 32
+  pub label : labelOf w ≡ l
+  pub decoded : decodeAs (Lookup.Known (kindOf (r .body))) w ≡ Decoded.Accepted r
+
+back-under : (l : ℕ) (r : Record) (w : ℕ) → l < 256 → encodeUnder l r ≡ Encoded.Word w → ReadBack l r w
+back-under l r w h e =
+    let u = written-under l r w e in
+    subst (ReadBack l r) (u .1)
+    (record { short = parity-lt 31 (lowerAs l r) (lower-small l r (u .0)); label = label-back l r (u .0) h; decoded = record-read l r (u .0) })
+
+-- a record that is written under a label
+pub encode-decode-as : (l : ℕ) (r : Record) (w : ℕ) → encodeAs l r ≡ Encoded.Word w → ReadBack l r w
+encode-decode-as l r w e =
+    let c = cond-word (leb l 255) _ Refusal.Label w e in
+    back-under l r w (omega (arith, leb-true l 255 (c .0))) (c .1)
+
+-- and under an assignment: it gives a word of 32 bits, and the word gives the record
 pub encode-decode : (a : Assignment) (r : Record) (w : ℕ) → encodeWith a r ≡ Encoded.Word w → (w < 2 ^ 32) × (decodeWith a w ≡ Decoded.Accepted r)
 encode-decode a r w e =
-    let u = written a r w e in
-    subst (λ (x : ℕ). (x < 2 ^ 32) × (decodeWith a x ≡ Decoded.Accepted r)) (u .1)
-    (parity-lt 31 (lowerBits a r) (lower-small a r (u .0)), record-read a r (u .0))
+    let k = kindOf (r .body) in
+    let b = back-under (recordLabel a r) r w (a .short k) e in
+    (b .short, ap (λ (l : Lookup). decodeAs l w) (ap (a .kind) (b .label) ∙ a .found k) ∙ b .decoded)

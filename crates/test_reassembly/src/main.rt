@@ -20,9 +20,9 @@ fn last_part(held: Reassembly) -> u64 {
     }
 }
 
-// Whether a text is this number of bits and this mark.
-fn is_joined(text: &[u8], bits: u64, mark: bool) -> bool {
-    let letter = if mark { b'T' } else { b'F' };
+// Whether a text is this number of bits and this parity.
+fn is_joined(text: &[u8], bits: u64, parity_good: bool) -> bool {
+    let letter = if parity_good { b'T' } else { b'F' };
     test_vectors::is_number(test_vectors::first_field(text), bits)
         & test_vectors::starts_with(test_vectors::later_fields(text), letter)
 }
@@ -37,7 +37,7 @@ fn says(text: &[u8], answer: WordAnswer, part: u64) -> bool {
         }
         WordAnswer::Complete(group) => {
             test_vectors::starts_with(text, b'j')
-                & is_joined(test_vectors::later_fields(rest), group.bits, group.mark)
+                & is_joined(test_vectors::later_fields(rest), group.bits, group.parity_good)
         }
         WordAnswer::Refused(refusal) => {
             let number = refusals::number(refusal);

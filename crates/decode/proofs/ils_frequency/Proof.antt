@@ -4,8 +4,8 @@ use borrow.Author.Needs.{needs}
 use Rattle.decode.proofs.ils_frequency.Statement.{statement}
 use Rattle.decode.proofs.ils_frequency.Tie as tie
 
-frequency-verdict-requires : tie.Need-frequency-verdict-requires
-frequency-verdict-requires c κs = search needs
+frequency-judgement-requires : tie.Need-frequency-judgement-requires
+frequency-judgement-requires c κs = search needs
 
 decimal-status-in-requires : tie.Need-decimal-status-in-requires
 decimal-status-in-requires c κs = search needs
@@ -26,8 +26,8 @@ returns c =
       c .before .frequency-in .ensures,
       c .before .before .category-of .ensures,
       c .before .before .before .decimal-status-in .ensures,
-      c .before .before .before .before .frequency-verdict .ensures,
+      c .before .before .before .before .frequency-judgement .ensures,
     )
 
 pub ils-frequency-spec : {M : Type 1} → statement M
-ils-frequency-spec = tie.close (tie.spec frequency-verdict-requires decimal-status-in-requires category-of-requires frequency-in-requires judged-requires returns)
+ils-frequency-spec = tie.close (tie.spec frequency-judgement-requires decimal-status-in-requires category-of-requires frequency-in-requires judged-requires returns)

@@ -4,8 +4,8 @@ use borrow.Author.Needs.{needs}
 use Rattle.decode.proofs.part_1.Statement.{statement}
 use Rattle.decode.proofs.part_1.Tie as tie
 
-part-verdict-requires : tie.Need-part-verdict-requires
-part-verdict-requires c κs = search needs
+part-judgement-requires : tie.Need-part-judgement-requires
+part-judgement-requires c κs = search needs
 
 cast-t5 : tie.Need-cast-t5
 cast-t5 c = search needs
@@ -20,8 +20,8 @@ returns : tie.Need-returns
 returns c =
     rw (
       c .judged .ensures,
-      c .before .part-verdict .ensures,
+      c .before .part-judgement .ensures,
     )
 
 pub part-1-spec : {M : Type 1} → statement M
-part-1-spec = tie.close (tie.spec part-verdict-requires cast-t5 cast-t8 judged-requires returns)
+part-1-spec = tie.close (tie.spec part-judgement-requires cast-t5 cast-t8 judged-requires returns)

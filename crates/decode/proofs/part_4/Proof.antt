@@ -4,8 +4,8 @@ use borrow.Author.Needs.{needs}
 use Rattle.decode.proofs.part_4.Statement.{statement}
 use Rattle.decode.proofs.part_4.Tie as tie
 
-part-verdict-requires : tie.Need-part-verdict-requires
-part-verdict-requires c κs = search needs
+part-judgement-requires : tie.Need-part-judgement-requires
+part-judgement-requires c κs = search needs
 
 flag-11-requires : tie.Need-flag-11-requires
 flag-11-requires c κs = search needs
@@ -22,8 +22,8 @@ returns c =
       c .judged .ensures,
       c .before .content-in .ensures,
       c .before .before .flag-11 .ensures,
-      c .before .before .before .part-verdict .ensures,
+      c .before .before .before .part-judgement .ensures,
     )
 
 pub part-4-spec : {M : Type 1} → statement M
-part-4-spec = tie.close (tie.spec part-verdict-requires flag-11-requires content-in-requires judged-requires returns)
+part-4-spec = tie.close (tie.spec part-judgement-requires flag-11-requires content-in-requires judged-requires returns)

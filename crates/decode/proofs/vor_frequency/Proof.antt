@@ -4,8 +4,8 @@ use borrow.Author.Needs.{needs}
 use Rattle.decode.proofs.vor_frequency.Statement.{statement}
 use Rattle.decode.proofs.vor_frequency.Tie as tie
 
-frequency-verdict-requires : tie.Need-frequency-verdict-requires
-frequency-verdict-requires c κs = search needs
+frequency-judgement-requires : tie.Need-frequency-judgement-requires
+frequency-judgement-requires c κs = search needs
 
 decimal-status-in-requires : tie.Need-decimal-status-in-requires
 decimal-status-in-requires c κs = search needs
@@ -22,8 +22,8 @@ returns c =
       c .judged .ensures,
       c .before .frequency-in .ensures,
       c .before .before .decimal-status-in .ensures,
-      c .before .before .before .frequency-verdict .ensures,
+      c .before .before .before .frequency-judgement .ensures,
     )
 
 pub vor-frequency-spec : {M : Type 1} → statement M
-vor-frequency-spec = tie.close (tie.spec frequency-verdict-requires decimal-status-in-requires frequency-in-requires judged-requires returns)
+vor-frequency-spec = tie.close (tie.spec frequency-judgement-requires decimal-status-in-requires frequency-in-requires judged-requires returns)

@@ -5,31 +5,17 @@ use Prim.Native.Nat.{ℕ, _+_, _*_, _<_}
 use native.Mathlib.Omega.{arith}
 use borrow.Author.Needs.{needs}
 use Rattle.bits.specs.Parity.{withParity}
-use Rattle.records.specs.Kinds.{kindOf}
-use Rattle.labels.specs.declared.Row.{Row}
 use Rattle.labels.specs.Label.{labelOf, label-lt}
-use Rattle.labels.specs.Table.{labelNumber, rowOf}
 use Rattle.encode.specs.Laws.{upper-lt}
 use Rattle.encode.proofs.word_of.Statement.{statement}
 use Rattle.encode.proofs.word_of.Tie as tie
 
 -- what is written above bit 10 has 21 bits
 upper-small : (c : tie.After-upper-bits) → c .upper-bits .result < 2097152
-upper-small c = subst (λ (x : ℕ). x < 2097152) (sym (c .upper-bits .ensures)) (upper-lt (c .before .before .before .args .«record» .body) (c .before .before .before .pre .1))
-
--- the byte of the kind's label
-byte-is : (c : tie.After-label-of) → c .label-of .result ≡ labelOf (labelNumber (kindOf (c .before .before .before .before .before .args .«record» .body)))
-unfolding rowOf
-byte-is c = c .label-of .ensures ∙ ap (λ (r : Row). labelOf (r .label)) (c .before .before .before .row-of .ensures ∙ ap rowOf (c .before .before .before .before .kind-of .ensures))
+upper-small c = subst (λ (x : ℕ). x < 2097152) (sym (c .upper-bits .ensures)) (upper-lt (c .before .args .«record» .body) (c .before .pre .1))
 
 byte-small : (c : tie.After-label-of) → c .label-of .result < 256
-byte-small c = omega (arith, byte-is c, label-lt (labelNumber (kindOf (c .before .before .before .before .before .args .«record» .body))))
-
-kind-of-requires : tie.Need-kind-of-requires
-kind-of-requires c κs = search needs
-
-row-of-requires : tie.Need-row-of-requires
-row-of-requires c κs = search needs
+byte-small c = subst (λ (x : ℕ). x < 256) (sym (c .label-of .ensures)) (label-lt (c .before .before .before .args .label))
 
 upper-bits-requires : tie.Need-upper-bits-requires
 upper-bits-requires c κs = search needs
@@ -63,17 +49,15 @@ add-result c = omega (arith, upper-small (c .before .before .before), byte-small
 
 returns : tie.Need-returns
 returns c =
-    let source = c .before .before .before .before .before .before .args .«record» .source in
+    let source = c .before .before .before .before .args .«record» .source in
     let lower : ℕ → ℕ → ℕ = λ u b. (u * 4 + source) * 256 + b in
     ap (λ (p : ℕ). p * 2147483648 + lower (c .before .before .before .upper-bits .result) (c .before .label-of .result)) (c .parity-bit .ensures .0)
-    ∙ ap (withParity 31) (ap₂ lower (c .before .before .before .upper-bits .ensures) (byte-is (c .before)))
+    ∙ ap (withParity 31) (ap₂ lower (c .before .before .before .upper-bits .ensures) (c .before .label-of .ensures))
 
 pub word-of-spec : {M : Type 1} → statement M
 word-of-spec =
     tie.close
     (tie.spec
-    kind-of-requires
-    row-of-requires
     upper-bits-requires
     mul-lower
     cast-lower

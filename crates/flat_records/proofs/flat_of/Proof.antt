@@ -1,7 +1,9 @@
 -- By whether there is a record.
 -- Assumes nothing.
 use mathlib.Core.Path.{ap, _∙_}
-use Rattle.flat_records.specs.Numbers.{refused}
+use Prim.Native.Nat.{ℕ}
+use Rattle.records.specs.All.{placeOf}
+use Rattle.flat_records.specs.Numbers.{flatNumbers, refused}
 use borrow.Author.Needs.{needs}
 use Rattle.flat_records.proofs.flat_of.Statement.{statement}
 use Rattle.flat_records.proofs.flat_of.Tie as tie
@@ -9,8 +11,14 @@ use Rattle.flat_records.proofs.flat_of.Tie as tie
 enum-known-decoded : tie.Need-enum-known-decoded
 enum-known-decoded c = search needs
 
-flat-body-requires : tie.Need-flat-body-requires
-flat-body-requires c κs = search needs
+kind-of-requires : tie.Need-kind-of-requires
+kind-of-requires c κs = search needs
+
+place-of-requires : tie.Need-place-of-requires
+place-of-requires c κs = search needs
+
+flat-numbers-requires : tie.Need-flat-numbers-requires
+flat-numbers-requires c κs = search needs
 
 enum-known-decoded-2 : tie.Need-enum-known-decoded-2
 enum-known-decoded-2 c = search needs
@@ -22,7 +30,11 @@ refused-requires : tie.Need-refused-requires
 refused-requires c κs = search needs
 
 returns : tie.Need-returns
-returns c = rw (c .before .before .decoded .given .1) (c .flat-body .ensures)
+returns c =
+    let g = c .before .before .before .before .decoded .given in
+    rw (g .1)
+    (c .flat-numbers .ensures
+    ∙ ap (λ (n : ℕ). flatNumbers n (g .0 .0 .source) (g .0 .0 .body)) (c .before .place-of .ensures ∙ ap placeOf (c .before .before .kind-of .ensures)))
 
 returns-2 : tie.Need-returns-2
 returns-2 c = rw (c .before .before .before .decoded2 .given .1) (c .refused .ensures ∙ ap refused (c .before .number .ensures))
@@ -32,7 +44,9 @@ flat-of-spec =
     tie.close
     (tie.spec
     enum-known-decoded
-    flat-body-requires
+    kind-of-requires
+    place-of-requires
+    flat-numbers-requires
     enum-known-decoded-2
     number-requires
     refused-requires

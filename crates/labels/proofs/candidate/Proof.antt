@@ -6,7 +6,7 @@ use native.Mathlib.Omega.{arith}
 use borrow.Author.Needs.{needs}
 use lib.ListN.{getD}
 use Rattle.records.specs.declared.Kind.the-variants.{VorAzimuth}
-use Rattle.labels.specs.Hash.{hash, hashed}
+use Rattle.labels.specs.HashLemmas.{hash, hashed}
 use Rattle.labels.proofs.candidate.Statement.{statement}
 use Rattle.labels.proofs.candidate.Tie as tie
 

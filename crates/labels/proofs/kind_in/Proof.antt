@@ -2,7 +2,7 @@
 -- Assumes nothing.
 use mathlib.Core.Path.{sym, ap, _∙_}
 use borrow.Author.Needs.{needs}
-use Rattle.labels.specs.Hash.{byteOf, kind-hit, kind-miss}
+use Rattle.labels.specs.HashLemmas.{byteOf, kind-hit, kind-miss}
 use Rattle.labels.proofs.kind_in.Statement.{statement}
 use Rattle.labels.proofs.kind_in.Tie as tie
 

@@ -1,67 +1,63 @@
--- Parity, then the label, then what decoding says.
+-- The word is decoded by the parts' labels, and its record carries the part.
 -- Assumes nothing.
-use mathlib.Core.Path.{sym, ap, ap₂, _∙_}
-use borrow.Author.Tests.{not-true, not-false}
-use Rattle.labels.specs.declared.Lookup.{Lookup}
-use Rattle.labels.specs.Table.{rows, findKind}
-use Rattle.labels.specs.Assignment.{document01}
-use Rattle.decode.specs.declared.Decoded.{Decoded}
-use Rattle.decode.specs.Decode.{decodeOf}
-use Rattle.reassembly.specs.Parts.{partFound, parity-broken, parity-kept}
+use mathlib.Core.Path.{_≡_, sym, ap, _∙_}
+use Prim.Native.Nat.{ℕ}
 use borrow.Author.Needs.{needs}
+use Rattle.labels.specs.declared.Lookup.{Lookup}
+use Rattle.labels.specs.Label.{labelOf}
+use Rattle.labels.specs.Table.{rows, findKind}
+use Rattle.decode.specs.declared.Decoded.{Decoded}
+use Rattle.decode.specs.Decode.{decodeAs}
+use Rattle.reassembly.specs.Parts.{onlyParts, partRead}
 use Rattle.reassembly.proofs.part_in.Statement.{statement}
 use Rattle.reassembly.proofs.part_in.Tie as tie
 
-is-odd-requires : tie.Need-is-odd-requires
-is-odd-requires c κs = search needs
+-- what was decoded, from what each call ensures
+told : (w : ℕ) {l m : Lookup} {d e : Decoded} → l ≡ findKind rows (labelOf w) → m ≡ onlyParts l → d ≡ decodeAs m w → d ≡ e → e ≡ decodeAs (onlyParts (findKind rows (labelOf w))) w
+told w p q r s = sym s ∙ r ∙ ap (λ (l : Lookup). decodeAs l w) (q ∙ ap onlyParts p)
+
+kind-in-requires : tie.Need-kind-in-requires
+kind-in-requires c κs = search needs
+
+only-parts-requires : tie.Need-only-parts-requires
+only-parts-requires c κs = search needs
+
+decode-as-requires : tie.Need-decode-as-requires
+decode-as-requires c κs = search needs
+
+enum-known-record : tie.Need-enum-known-record
+enum-known-record c = search needs
+
+part-of-requires : tie.Need-part-of-requires
+part-of-requires c κs = search needs
+
+enum-known-refusal : tie.Need-enum-known-refusal
+enum-known-refusal c = search needs
 
 returns : tie.Need-returns
-returns c = sym (parity-broken document01 (c .before .before .args .word) (sym (c .before .is-odd .ensures) ∙ not-true _ (c .if1 .taken)))
-
-label-of-requires : tie.Need-label-of-requires
-label-of-requires c κs = search needs
-
-find-kind-requires : tie.Need-find-kind-requires
-find-kind-requires c κs = search needs
-
-enum-known-kind : tie.Need-enum-known-kind
-enum-known-kind c = search needs
-
-decode-requires : tie.Need-decode-requires
-decode-requires c κs = search needs
-
-part-of-kind-requires : tie.Need-part-of-kind-requires
-part-of-kind-requires c κs = search needs
-
-enum-told : tie.Need-enum-told
-enum-told c = search needs
+returns c =
+    let looked = c .before .before .before .before .before .before in
+    c .part-of .ensures
+    ∙ ap partRead
+    (told (looked .before .args .word) (looked .kind-in .ensures) (c .before .before .before .before .before .only-parts .ensures) (c .before .before .before .before .decode-as .ensures)
+    (c .before .before .«record» .given .1))
 
 returns-2 : tie.Need-returns-2
 returns-2 c =
-    let w = c .before .before .before .before .before .before .before .before .before .args .word in
-    let found = sym (c .before .before .before .before .before .find-kind .ensures ∙ ap (findKind rows) (c .before .before .before .before .before .before .label-of .ensures)) ∙ c .before .before .before .kind .given .1 in
-    c .part-of-kind .ensures
-    ∙ ap₂ (λ (l : Lookup) (d : Decoded). partFound l d w) (sym found) (c .before .decode .ensures)
-    ∙ sym (parity-kept document01 w (sym (c .before .before .before .before .before .before .before .before .is-odd .ensures) ∙ not-false _ (c .before .before .before .before .before .before .before .if1 .left)))
-
-returns-3 : tie.Need-returns-3
-returns-3 c =
-    let w = c .before .before .before .before .before .before .args .word in
-    let found = sym (c .before .before .find-kind .ensures ∙ ap (findKind rows) (c .before .before .before .label-of .ensures)) ∙ c .enum-told .given .1 in
-    ap (λ (l : Lookup). partFound l (decodeOf w) w) (sym found)
-    ∙ sym (parity-kept document01 w (sym (c .before .before .before .before .before .is-odd .ensures) ∙ not-false _ (c .before .before .before .before .if1 .left)))
+    let looked = c .before .before .before .before .before in
+    ap partRead
+    (told (looked .before .args .word) (looked .kind-in .ensures) (c .before .before .before .before .only-parts .ensures) (c .before .before .before .decode-as .ensures)
+    (c .before .refusal .given .1))
 
 pub part-in-spec : {M : Type 1} → statement M
 part-in-spec =
     tie.close
     (tie.spec
-    is-odd-requires
+    kind-in-requires
+    only-parts-requires
+    decode-as-requires
+    enum-known-record
+    part-of-requires
+    enum-known-refusal
     returns
-    label-of-requires
-    find-kind-requires
-    enum-known-kind
-    decode-requires
-    part-of-kind-requires
-    enum-told
-    returns-2
-    returns-3)
+    returns-2)

@@ -1,4 +1,4 @@
--- The kind of a word by a hash of its lowest byte: how the code finds it. `kind-hit` and `kind-miss` say that it is the kind that the word's label finds.
+-- How the code finds the kind of a word: by a hash of its lowest byte, which finds the kind that the word's label stands for (`kind-hit`, `kind-miss`).
 -- Assumes nothing.
 use mathlib.Core.Path.{_≡_, refl, sym, ap, _∙_}
 use mathlib.Core.List.{List, [], _∷_}

@@ -8,11 +8,11 @@ use Rattle.bits.specs.Fields.{bits}
 use Rattle.codes.specs.Codes.{decimalListed}
 use Rattle.frequencies.specs.Frequencies.{legalFrequency}
 use Rattle.refusals.specs.declared.Refusal.{Refusal}
-use Rattle.decode.specs.declared.Verdict.{Verdict}
+use Rattle.decode.specs.declared.Judgement.{Judgement}
 use Rattle.decode.specs.Rules.{decimal}
 use Rattle.decode.specs.Decode.{digits-broken, codes-broken, codes-kept}
-use Rattle.decode.proofs.frequency_verdict.Statement.{statement}
-use Rattle.decode.proofs.frequency_verdict.Tie as tie
+use Rattle.decode.proofs.frequency_judgement.Statement.{statement}
+use Rattle.decode.proofs.frequency_judgement.Tie as tie
 
 returns : tie.Need-returns
 returns c = sym (digits-broken (decimal (c .before .args .band) (c .before .args .word)) (not-true _ (c .if1 .taken)))
@@ -41,15 +41,15 @@ returns-3 c =
     let w = c .before .before .before .before .before .before .args .word in
     let d = decimal (c .before .before .before .before .before .before .args .band) w in
     c .kept-if .ensures
-    ∙ ap (λ (b : Bool). cond b Verdict.Kept (Verdict.Broken Refusal.Value))
+    ∙ ap (λ (b : Bool). cond b Judgement.Kept (Judgement.Broken Refusal.Value))
     (c .before .is-legal-frequency .ensures ∙ ap (legalFrequency (c .before .before .before .before .before .before .args .band)) (c .before .before .frequency-in .ensures))
     ∙ sym
     (codes-kept d (not-false _ (c .before .before .before .before .before .if1 .left))
     (ap (λ (b : Bool). decimalListed (bits 30 31 w) && b) (sym (c .before .before .before .before .is-tens .ensures)) ∙ not-false _ (c .before .before .before .if2 .left))
     refl)
 
-pub frequency-verdict-spec : {M : Type 1} → statement M
-frequency-verdict-spec =
+pub frequency-judgement-spec : {M : Type 1} → statement M
+frequency-judgement-spec =
     tie.close
     (tie.spec
     returns

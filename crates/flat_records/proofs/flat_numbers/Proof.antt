@@ -3,8 +3,8 @@
 use mir.Syntax.{w16}
 use mir.Facts.{toZ-ofZ}
 use borrow.Author.Needs.{needs}
-use Rattle.flat_records.proofs.flat_body.Statement.{statement}
-use Rattle.flat_records.proofs.flat_body.Tie as tie
+use Rattle.flat_records.proofs.flat_numbers.Statement.{statement}
+use Rattle.flat_records.proofs.flat_numbers.Tie as tie
 
 enum-known-body : tie.Need-enum-known-body
 enum-known-body c = search needs
@@ -163,8 +163,8 @@ returns-14 c = rw (c .before .before .body14 .given .1) (c .part3 .ensures)
 returns-15 : tie.Need-returns-15
 returns-15 c = rw (c .before .before .body15 .given .1) (c .part4 .ensures)
 
-pub flat-body-spec : {M : Type 1} → statement M
-flat-body-spec =
+pub flat-numbers-spec : {M : Type 1} → statement M
+flat-numbers-spec =
     tie.close
     (tie.spec
     enum-known-body
