@@ -15,7 +15,7 @@ use flat_words::FlatWord;
 ghost use mathlib.Core.Path.{_≡_};
 ghost use Rattle.decode.specs.Decode.{decodeOf};
 ghost use Rattle.chart.specs.Words.{chartPoint};
-ghost use Rattle.figures.specs.Agreement.{agreesOf};
+ghost use Rattle.agreements.specs.Agreement.{agreesOf};
 ghost use Rattle.figures.specs.Coding.{codedOf};
 ghost use Rattle.fields.specs.declared.FieldKind.{FieldKind};
 ghost use Rattle.fields.specs.Run.{sheetOf};
@@ -89,7 +89,7 @@ pub extern "C" fn lampcygnet_print_count(label: u32, count: i64) -> FlatMilliont
 pub extern "C" fn lampcygnet_agrees(word: u32, millionths: i64) -> bool
     ensures { λ r. ⌜ r ≡ agreesOf word millionths ⌝ }
 {
-    figures::agrees(word, millionths)
+    agreements::agrees(word, millionths)
 }
 
 // Takes one word of group C into what is held of a group.

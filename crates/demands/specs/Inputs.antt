@@ -227,11 +227,11 @@ record-numbers r = by (leb (r .source) 3 && codesListed (r .body)) (valuesLegal 
     by true false w = refl
     by false v w = refl
 
-measured-numbers : (m : Measured) (source : ℕ) (z : ℤ) → Refusing (2 ∷ 4 ∷ 8 ∷ []) (ofEncoded (codedMeasured document01 m source z))
-measured-numbers Measured.Nothing source z = refl
-measured-numbers (Measured.As q) source z = by (leb source 3) (nearestCount q z)
+measured-numbers : (m : Measured) (label source : ℕ) (z : ℤ) → Refusing (2 ∷ 4 ∷ 8 ∷ []) (ofEncoded (codedMeasured m label source z))
+measured-numbers Measured.Nothing label source z = refl
+measured-numbers (Measured.As q) label source z = by (leb source 3) (nearestCount q z)
   where
-    by : (b : Bool) (n : Nearest) → Refusing (2 ∷ 4 ∷ 8 ∷ []) (ofEncoded (cond b (codedNearest document01 q source n) (Encoded.Refused Refusal.Code)))
+    by : (b : Bool) (n : Nearest) → Refusing (2 ∷ 4 ∷ 8 ∷ []) (ofEncoded (cond b (codedNearest q label source n) (Encoded.Refused Refusal.Code)))
     by false n = refl
     by true (Nearest.Count c) = tt
     by true Nearest.OutOfReach = refl
@@ -397,7 +397,7 @@ pub demand1 : Demand1
 demand1 = record {
   word = word-numbers;
   «record» = record-numbers;
-  figure = λ label source z. measured-numbers (quantityAt document01 label) source z;
+  figure = λ label source z. measured-numbers (quantityAt document01 label) label source z;
   chart = λ course glide. chart-numbers course glide (chartPoint course glide) refl;
   part = part-numbers;
   word-content = λ c. word-in-numbers (eqb (length c) 4) _;

@@ -18,9 +18,9 @@ use Rattle.decode.specs.Decode.{decodeOf}
 use Rattle.decode.specs.declared.Decoded.{Decoded}
 use Rattle.encode.specs.declared.Encoded.{Encoded}
 use Rattle.quantities.specs.Nearest.{lineNearest, wrap, circleNearest, nearestCount, millionthsOf}
-use Rattle.figures.specs.declared.Measurement.{Measurement}
+use Rattle.measurements.specs.declared.Measurement.{Measurement}
 use Rattle.figures.specs.Coding.{codedOf}
-use Rattle.figures.specs.Agreement.{measuredIn}
+use Rattle.agreements.specs.Agreement.{wordMeasurement}
 
 -- What is asked: what a word holds, what figure is printed for its count, or how a figure in millionths is coded under a label and source 0.
 pub data Asked : Type 0 where
@@ -97,13 +97,13 @@ printed (Measurement.Count q c) = prints (millionthsOf q c)
 printed Measurement.Nothing = nothing
 
 abbrev coded : Encoded → Answer
-coded (Encoded.Word w) = counted (measuredIn document01 w)
+coded (Encoded.Word w) = counted (wordMeasurement document01 w)
 coded (Encoded.Refused f) = refused (numberOf f)
 
 -- what decoding, printing and coding give
 abbrev pub answerOf : Asked → Answer
 answerOf (word w) = decoded (decodeOf w)
-answerOf (print w) = printed (measuredIn document01 w)
+answerOf (print w) = printed (wordMeasurement document01 w)
 answerOf (figure label f) = coded (codedOf label 0 f)
 
 pub starred-lines : map (λ l. answerOf (l .asked)) starred ≡ map (λ l. l .answer) starred

@@ -63,8 +63,8 @@ upper-lt b e =
     subst (λ (n : ℕ). upperBits b < 2 ^ n) (upper-size (kindOf b)) (join-lt (upperLayout (kindOf b)) (fieldsOf b ++ (statusBits b ∷ [])) (fields-fit b e))
 
 -- bits 1 to 31
-pub lower-is : (a : Assignment) (r : Record) → lowerBits a r ≡ (upperBits (r .body) * 4 + r .source) * 256 + labelOf (a .label (kindOf (r .body)))
-lower-is a r = refl
+pub lower-is : (label : ℕ) (r : Record) → lowerAs label r ≡ (upperBits (r .body) * 4 + r .source) * 256 + labelOf label
+lower-is label r = refl
 
 pub lower-lt : (l : ℕ) (r : Record) → r .source < 4 → valuesLegal (r .body) ≡ true → lowerAs l r < 2 ^ 31
 lower-lt l r s e = omega (arith, upper-lt (r .body) e, label-lt l)

@@ -12,7 +12,7 @@ use Rattle.refusals.specs.declared.Refusal.{Refusal}
 use Rattle.codes.specs.declared.Status.{Status}
 use Rattle.labels.specs.Assignment.{Assignment, document01}
 use Rattle.labels.specs.declared.Lookup.{Lookup}
-use Rattle.encode.specs.Encode.{wordOf}
+use Rattle.encode.specs.Encode.{wordAs}
 use Rattle.encode.specs.declared.Encoded.{Encoded}
 use Rattle.quantities.specs.Nearest.{nearestCount}
 use Rattle.quantities.specs.declared.Nearest.{Nearest}
@@ -69,23 +69,23 @@ readyBody Quantity.MlsGlide c = Body.MlsGlideDeviation Status.Ready false false 
 abbrev pub readyRecord : Quantity → ℕ → ℤ → Record
 readyRecord q source c = record { source = source; body = readyBody q c }
 
--- the word of the nearest count, or 8
-abbrev pub codedNearest : Assignment → Quantity → ℕ → Nearest → Encoded
-codedNearest a q source (Nearest.Count c) = Encoded.Word (wordOf a (readyRecord q source c))
-codedNearest a q source Nearest.OutOfReach = Encoded.Refused Refusal.Reach
+-- the word of the nearest count under a label, or 8
+abbrev pub codedNearest : Quantity → ℕ → ℕ → Nearest → Encoded
+codedNearest q label source (Nearest.Count c) = Encoded.Word (wordAs label (readyRecord q source c))
+codedNearest q label source Nearest.OutOfReach = Encoded.Refused Refusal.Reach
 
--- a figure of a quantity: 4 if the source is above 3
-abbrev pub codedQuantity : Assignment → Quantity → ℕ → ℤ → Encoded
-codedQuantity a q source figure =
-    cond (leb source 3) (codedNearest a q source (nearestCount q figure)) (Encoded.Refused Refusal.Code)
+-- a figure of a quantity, in millionths, under a label and a source: 4 if the source is above 3
+abbrev pub codedUnder : Quantity → ℕ → ℕ → ℤ → Encoded
+codedUnder q label source figure =
+    cond (leb source 3) (codedNearest q label source (nearestCount q figure)) (Encoded.Refused Refusal.Code)
 
-abbrev pub codedMeasured : Assignment → Measured → ℕ → ℤ → Encoded
-codedMeasured a (Measured.As q) source figure = codedQuantity a q source figure
-codedMeasured a Measured.Nothing source figure = Encoded.Refused Refusal.Label
+abbrev pub codedMeasured : Measured → ℕ → ℕ → ℤ → Encoded
+codedMeasured (Measured.As q) label source figure = codedUnder q label source figure
+codedMeasured Measured.Nothing label source figure = Encoded.Refused Refusal.Label
 
--- a figure in millionths, under a label and a source: 2 if the label is unknown or measures nothing
+-- a figure of the quantity that words of the label measure: 2 if the label is unknown or measures nothing
 abbrev pub codedWith : Assignment → ℕ → ℕ → ℤ → Encoded
-codedWith a label source figure = codedMeasured a (quantityAt a label) source figure
+codedWith a label source figure = codedMeasured (quantityAt a label) label source figure
 
 -- under document 01's labels
 abbrev pub codedOf : ℕ → ℕ → ℤ → Encoded

@@ -1,8 +1,7 @@
 pub mod Coding
-pub mod Agreement
 pub mod Demand
 pub mod Words
 pub mod Ready
-pub mod Agreeing
+pub mod Under
 pub mod Theorems
 pub mod Five

@@ -1,19 +1,16 @@
 -- Bits 11 to 31 of a ready word: the status 3 above the count of 13 or of 16 bits, and zero below it.
 -- Assumes nothing.
-use mathlib.Core.Path.{_≡_, ap₂, _∙_}
+use mathlib.Core.Path.{_≡_, ap, _∙_}
 use Prim.Native.Nat.{ℕ, _+_, _*_, _^_, _<_}
 use native.Mathlib.Omega.{arith}
 use lib.IntN.{ℤ}
 use Rattle.bits.specs.Complement.{complement, complement-lt}
-use Rattle.records.specs.declared.Kind.{Kind}
-use Rattle.labels.specs.Assignment.{Assignment}
 use Rattle.labels.specs.Label.{labelOf}
-use Rattle.encode.specs.Encode.{upperBits, lowerBits}
+use Rattle.encode.specs.Encode.{upperBits, lowerAs}
 use Rattle.encode.specs.Laws.{lower-is}
 use Rattle.quantities.specs.declared.Quantity.{Quantity}
 use Rattle.quantities.specs.declared.Quantity.the-variants.{Azimuth, Course, Glide, MlsAzimuth, MlsGlide}
-use Rattle.figures.specs.Coding.{labelFor, readyBody, readyRecord}
-use Rattle.figures.specs.Words.{ready-kind}
+use Rattle.figures.specs.Coding.{readyBody, readyRecord}
 
 abbrev pub narrowBits : ℤ → ℕ
 narrowBits c = (3 * 2 ^ 13 + complement 13 c) * 2 ^ 6
@@ -37,10 +34,8 @@ ready-upper MlsAzimuth c = omega arith
 ready-upper MlsGlide c = omega arith
 
 -- above the label and the source
-pub ready-lower : (a : Assignment) (q : Quantity) (source : ℕ) (c : ℤ) → lowerBits a (readyRecord q source c) ≡ (readyBits q c * 4 + source) * 256 + labelOf (labelFor a q)
-ready-lower a q source c =
-    lower-is a (readyRecord q source c)
-    ∙ ap₂ (λ (u : ℕ) (k : Kind). (u * 4 + source) * 256 + labelOf (a .label k)) (ready-upper q c) (ready-kind q c)
+pub ready-lower : (q : Quantity) (label source : ℕ) (c : ℤ) → lowerAs label (readyRecord q source c) ≡ (readyBits q c * 4 + source) * 256 + labelOf label
+ready-lower q label source c = lower-is label (readyRecord q source c) ∙ ap (λ (u : ℕ). (u * 4 + source) * 256 + labelOf label) (ready-upper q c)
 
 -- and 21 bits
 pub ready-small : (q : Quantity) (c : ℤ) → readyBits q c < 2 ^ 21

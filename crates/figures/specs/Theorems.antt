@@ -2,13 +2,12 @@
 -- Assumes nothing.
 use mathlib.Core.Path.{_≡_, refl, sym, ap, subst, _∙_}
 use mathlib.Core.Logic.{_⊎_, _↔_, inl, inr}
-use mathlib.Core.Bool.{true}
 use Prim.Native.Nat.{ℕ, _≤_}
 use native.Mathlib.Omega.{arith}
 use lib.IntN.{ℤ}
 use Rattle.refusals.specs.declared.Refusal.{Refusal}
 use Rattle.labels.specs.Assignment.{Assignment, document01}
-use Rattle.encode.specs.Encode.{wordOf}
+use Rattle.encode.specs.Encode.{wordAs}
 use Rattle.encode.specs.declared.Encoded.{Encoded}
 use Rattle.quantities.specs.Scale.{scaleOf}
 use Rattle.quantities.specs.Nearest.{nearestCount, millionthsOf}
@@ -19,21 +18,19 @@ use Rattle.quantities.specs.declared.Quantity.{Quantity}
 use Rattle.figures.specs.declared.Measured.{Measured}
 use Rattle.figures.specs.Coding.{labelFor, readyRecord, codedNearest, codedMeasured, codedWith, codedOf}
 use Rattle.figures.specs.Demand.{countBits, ReadyWord, Demand3, Order}
-use Rattle.figures.specs.Agreement.{measured, agreesWith}
-use Rattle.figures.specs.Agreeing.{agrees-exactly}
-use Rattle.figures.specs.Words.{quantity-of-label, ready-measurement, unmeasured, ready-count, ready-word, illegal-source, coded-nearest}
+use Rattle.figures.specs.Words.{unmeasured, ready-count, ready-word, illegal-source, coded-under, coded-nearest}
 
 module _ (a : Assignment) where
-  refused-reach : (q : Quantity) (source : ℕ) (n : Nearest) → (codedNearest a q source n ≡ Encoded.Refused Refusal.Reach) ↔ (n ≡ Nearest.OutOfReach)
-  refused-reach q source (Nearest.Count c) =
+  refused-reach : (q : Quantity) (label source : ℕ) (n : Nearest) → (codedNearest q label source n ≡ Encoded.Refused Refusal.Reach) ↔ (n ≡ Nearest.OutOfReach)
+  refused-reach q label source (Nearest.Count c) =
       (λ e. absurd (let z : _≡_ {A = ℕ} 0 1 = cc in omega arith), λ e. absurd (let z : _≡_ {A = ℕ} 0 1 = cc in omega arith))
-  refused-reach q source Nearest.OutOfReach = (λ e. refl, λ e. refl)
+  refused-reach q label source Nearest.OutOfReach = (λ e. refl, λ e. refl)
 
   -- a figure is refused 8 exactly when it is out of reach
   refused : (q : Quantity) (source : ℕ) → source ≤ 3 → (figure : ℤ) → (codedWith a (labelFor a q) source figure ≡ Encoded.Refused Refusal.Reach) ↔ Beyond q figure
   refused q source s figure = (
-    λ e. Quantities.refused q figure .0 (refused-reach q source (nearestCount q figure) .0 (sym (coded-nearest a q source figure s) ∙ e)),
-    λ h. coded-nearest a q source figure s ∙ refused-reach q source (nearestCount q figure) .1 (Quantities.refused q figure .1 h),
+    λ e. Quantities.refused q figure .0 (refused-reach q (labelFor a q) source (nearestCount q figure) .0 (sym (coded-nearest a q source figure s) ∙ e)),
+    λ h. coded-nearest a q source figure s ∙ refused-reach q (labelFor a q) source (nearestCount q figure) .1 (Quantities.refused q figure .1 h),
   )
 
   -- under a legal source the nearest count is coded
@@ -41,8 +38,8 @@ module _ (a : Assignment) where
       → (w : ℕ) × (codedWith a (labelFor a q) source figure ≡ Encoded.Word w) × ReadyWord a q source w × (countBits q w ≡ c)
   given q source s figure c e =
       let l : Legal (scaleOf q) c = Quantities.coded q figure c e .legal in (
-        wordOf a (readyRecord q source c),
-        coded-nearest a q source figure s ∙ ap (codedNearest a q source) e,
+        wordAs (labelFor a q) (readyRecord q source c),
+        coded-nearest a q source figure s ∙ ap (codedNearest q (labelFor a q) source) e,
         ready-word a q source c s l,
         ready-count a q source c s l,
       )
@@ -56,10 +53,10 @@ module _ (a : Assignment) where
           → (codedWith a (labelFor a q) source figure ≡ Encoded.Refused Refusal.Reach)
           ⊎ ((w : ℕ) × (codedWith a (labelFor a q) source figure ≡ Encoded.Word w) × ReadyWord a q source w)
       go (Nearest.Count c) e = let g = given q source s figure c e in inr (g .0, g .1, g .2)
-      go Nearest.OutOfReach e = inl (coded-nearest a q source figure s ∙ ap (codedNearest a q source) e)
+      go Nearest.OutOfReach e = inl (coded-nearest a q source figure s ∙ ap (codedNearest q (labelFor a q) source) e)
 
   -- and a word that coding gives is that of the nearest count, which its count bits hold
-  word-given : (q : Quantity) (source : ℕ) → source ≤ 3 → (figure : ℤ) (w : ℕ) → codedWith a (labelFor a q) source figure ≡ Encoded.Word w
+  pub word-given : (q : Quantity) (source : ℕ) → source ≤ 3 → (figure : ℤ) (w : ℕ) → codedWith a (labelFor a q) source figure ≡ Encoded.Word w
       → ReadyWord a q source w × (nearestCount q figure ≡ Nearest.Count (countBits q w))
   word-given q source s figure w e = go (nearestCount q figure) refl
     where
@@ -70,7 +67,7 @@ module _ (a : Assignment) where
           let word : g .0 ≡ w = cc in
           (subst (ReadyWord a q source) word (g .2), ap Nearest.Count (sym (g .3) ∙ ap (countBits q) word))
       go Nearest.OutOfReach n =
-          let clash : Encoded.Refused Refusal.Reach ≡ Encoded.Word w = sym (coded-nearest a q source figure s ∙ ap (codedNearest a q source) n) ∙ e in
+          let clash : Encoded.Refused Refusal.Reach ≡ Encoded.Word w = sym (coded-nearest a q source figure s ∙ ap (codedNearest q (labelFor a q) source) n) ∙ e in
           absurd (let z : _≡_ {A = ℕ} 0 1 = cc in omega arith)
 
   nearest : (q : Quantity) (source : ℕ) → source ≤ 3 → (figure : ℤ) (w : ℕ) → codedWith a (labelFor a q) source figure ≡ Encoded.Word w
@@ -96,17 +93,9 @@ module _ (a : Assignment) where
   pub order : Order a (codedWith a)
   order =
       record {
-        label-first = λ label other source figure. ap (λ (m : Measured). codedMeasured a m source figure) (unmeasured a label other);
-        source-second = λ q source s figure.
-            ap (λ (m : Measured). codedMeasured a m source figure) (quantity-of-label a q) ∙ illegal-source a q source figure s;
+        label-first = λ label other source figure. ap (λ (m : Measured). codedMeasured m label source figure) (unmeasured a label other);
+        source-second = λ q source s figure. coded-under a q source figure ∙ illegal-source q (labelFor a q) source figure s;
       }
-
-  -- a figure agrees with the word that it is coded to
-  pub coded-agrees : (q : Quantity) (source : ℕ) → source ≤ 3 → (figure : ℤ) (w : ℕ) → codedWith a (labelFor a q) source figure ≡ Encoded.Word w
-      → agreesWith a w figure ≡ true
-  coded-agrees q source s figure w e =
-      let g = word-given q source s figure w e in
-      agrees-exactly a figure w .1 (q, countBits q w, ap measured (g .0 .accepted) ∙ ready-measurement q (countBits q w), g .1)
 
 -- and so under document 01's
 pub demand3-of : Demand3 document01 codedOf millionthsOf

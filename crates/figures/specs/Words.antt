@@ -1,17 +1,22 @@
 -- The word that a figure is coded to: under the label of a quantity and a legal source it is the word of the nearest count, which
 -- decoding gives back.
 -- Assumes nothing.
-use mathlib.Core.Path.{_≡_, refl, sym, ap, _∙_}
+use mathlib.Core.Path.{_≡_, refl, sym, ap, subst, _∙_}
 use mathlib.Core.Bool.{Bool, true, _&&_}
-use mathlib.Core.Logic.{_≢_, _⊎_, inl, inr}
+use mathlib.Core.Logic.{_≢_}
 use Prim.Native.Nat.{ℕ, suc, _≤_, _<_, _^_}
 use native.Mathlib.Omega.{arith}
 use borrow.Author.Tests.{lt-ltb, le-leb, lt-leb}
 use lib.Dec.{leb, leb→le}
 use lib.IntN.{ℤ, pos, negsuc}
 use lib.Signed.{_≤ℤ_, mag}
+use Rattle.records.specs.All.{agree}
 use Rattle.records.specs.Kinds.{kindOf}
+use Rattle.records.specs.declared.AzimuthCount.{AzimuthCount}
+use Rattle.records.specs.declared.CourseCount.{CourseCount}
+use Rattle.records.specs.declared.GlideCount.{GlideCount}
 use Rattle.records.specs.declared.Kind.{Kind}
+use Rattle.records.specs.declared.MlsCount.{MlsCount}
 use Rattle.records.specs.declared.Record.{Record}
 use Rattle.refusals.specs.declared.Refusal.{Refusal}
 use Rattle.labels.specs.Assignment.{Assignment}
@@ -20,7 +25,7 @@ use Rattle.labels.specs.declared.Lookup.{Lookup}
 use Rattle.decode.specs.Rules.{bodyOf}
 use Rattle.decode.specs.Decode.{recordOf, decodeWith}
 use Rattle.decode.specs.declared.Decoded.{Decoded}
-use Rattle.encode.specs.Encode.{codesListed, valuesLegal, wordOf, encodeWith, all-legal}
+use Rattle.encode.specs.Encode.{codesListed, valuesLegal, wordAs, wordOf, encodeWith, all-legal}
 use Rattle.encode.specs.declared.Encoded.{Encoded}
 use Rattle.roundtrip.specs.Reading.{Reads, accepted}
 use Rattle.roundtrip.specs.Back.{back}
@@ -31,9 +36,7 @@ use Rattle.quantities.specs.Statements.{Legal}
 use Rattle.quantities.specs.declared.Quantity.{Quantity}
 use Rattle.quantities.specs.declared.Quantity.the-variants.{Azimuth, Course, Glide, MlsAzimuth, MlsGlide}
 use Rattle.figures.specs.declared.Measured.{Measured}
-use Rattle.figures.specs.declared.Measurement.{Measurement}
-use Rattle.figures.specs.Coding.{quantityOf, kindFor, labelFor, quantityAt, quantityFound, readyBody, readyRecord, codedNearest, codedQuantity, codedMeasured, codedWith}
-use Rattle.figures.specs.Agreement.{measurementOf}
+use Rattle.figures.specs.Coding.{quantityOf, kindFor, labelFor, quantityAt, quantityFound, readyBody, readyRecord, codedNearest, codedUnder, codedMeasured, codedWith}
 use Rattle.figures.specs.Demand.{countBits, ReadyWord}
 
 -- ---- the label of a quantity
@@ -48,35 +51,33 @@ quantity-of-kind MlsGlide = refl
 pub quantity-of-label : (a : Assignment) (q : Quantity) → quantityAt a (labelFor a q) ≡ Measured.As q
 quantity-of-label a q = ap quantityFound (a .found (kindFor q)) ∙ quantity-of-kind q
 
--- only these kinds measure a quantity
-measured-or-not : (k : Kind) → (quantityOf k ≡ Measured.Nothing) ⊎ ((q : Quantity) × (k ≡ kindFor q))
-measured-or-not Kind.VorAzimuth = inr (Azimuth, refl)
-measured-or-not Kind.VorFrequency = inl refl
-measured-or-not Kind.IlsCourse = inr (Course, refl)
-measured-or-not Kind.IlsGlide = inr (Glide, refl)
-measured-or-not Kind.IlsFrequency = inl refl
-measured-or-not Kind.MlsFrequency = inl refl
-measured-or-not Kind.MlsAzimuthDeviation = inr (MlsAzimuth, refl)
-measured-or-not Kind.MlsGlideDeviation = inr (MlsGlide, refl)
-measured-or-not Kind.SelectedAzimuth = inl refl
-measured-or-not Kind.GreatestGlideAngle = inl refl
-measured-or-not Kind.SelectedGlideAngle = inl refl
-measured-or-not Kind.Part1 = inl refl
-measured-or-not Kind.Part2 = inl refl
-measured-or-not Kind.Part3 = inl refl
-measured-or-not Kind.Part4 = inl refl
+-- a kind that measures a quantity is the kind of that quantity
+abbrev kindBy : Kind → Measured → Kind
+kindBy k (Measured.As q) = kindFor q
+kindBy k Measured.Nothing = k
+
+kind-by-quantity : (k : Kind) → kindBy k (quantityOf k) ≡ k
+kind-by-quantity = agree (λ k. kindBy k (quantityOf k)) (λ k. k) refl
+
+-- so the label of a quantity is the only one that measures it
+pub label-of-quantity : (a : Assignment) (label : ℕ) (q : Quantity) → quantityAt a label ≡ Measured.As q → labelFor a q ≡ label
+label-of-quantity a label q = go (a .kind label) refl
+  where
+    go : (f : Lookup) → a .kind label ≡ f → quantityFound f ≡ Measured.As q → labelFor a q ≡ label
+    go (Lookup.Known k) e h = ap (a .label) (ap (kindBy k) (sym h) ∙ kind-by-quantity k) ∙ a .only label k e
+    go Lookup.Unknown e h = absurd (let z : _≡_ {A = ℕ} 0 1 = cc in omega arith)
+
+-- which has 8 bits
+pub measured-short : (a : Assignment) (label : ℕ) (q : Quantity) → quantityAt a label ≡ Measured.As q → label < 256
+measured-short a label q e = subst (λ (l : ℕ). l < 256) (label-of-quantity a label q e) (a .short (kindFor q))
 
 -- any other label measures nothing
 pub unmeasured : (a : Assignment) (label : ℕ) → ((q : Quantity) → label ≢ labelFor a q) → quantityAt a label ≡ Measured.Nothing
-unmeasured a label other = go (a .kind label) refl
+unmeasured a label other = go (quantityAt a label) refl
   where
-    of-kind : (k : Kind) → a .kind label ≡ Lookup.Known k → (quantityOf k ≡ Measured.Nothing) ⊎ ((q : Quantity) × (k ≡ kindFor q)) → quantityOf k ≡ Measured.Nothing
-    of-kind k e (inl n) = n
-    of-kind k e (inr (q, h)) = absurd (other q (sym (a .only label k e) ∙ ap (a .label) h))
-
-    go : (f : Lookup) → a .kind label ≡ f → quantityFound f ≡ Measured.Nothing
-    go (Lookup.Known k) e = of-kind k e (measured-or-not k)
-    go Lookup.Unknown e = refl
+    go : (m : Measured) → quantityAt a label ≡ m → m ≡ Measured.Nothing
+    go (Measured.As q) e = absurd (other q (sym (label-of-quantity a label q e)))
+    go Measured.Nothing e = refl
 
 -- a label of more than 8 bits is unknown
 pub unknown : (a : Assignment) (l : ℕ) → 256 ≤ l → a .kind l ≡ Lookup.Unknown
@@ -113,52 +114,31 @@ ready-legal Glide c l = lt-ltb (mag c) 4096 (within 4095 c (l .0) (l .1))
 ready-legal MlsAzimuth c l = lt-ltb (mag c) 32768 (within 32767 c (l .0) (l .1))
 ready-legal MlsGlide c l = lt-ltb (mag c) 32768 (within 32767 c (l .0) (l .1))
 
+-- under the label of its quantity
+ready-under : (a : Assignment) (q : Quantity) (source : ℕ) (c : ℤ) → wordOf a (readyRecord q source c) ≡ wordAs (labelFor a q) (readyRecord q source c)
+ready-under a q source c = ap (λ (k : Kind). wordAs (a .label k) (readyRecord q source c)) (ready-kind q c)
+
 ready-encoded : (a : Assignment) (q : Quantity) (source : ℕ) (c : ℤ) → source ≤ 3 → Legal (scaleOf q) c
-    → encodeWith a (readyRecord q source c) ≡ Encoded.Word (wordOf a (readyRecord q source c))
+    → encodeWith a (readyRecord q source c) ≡ Encoded.Word (wordAs (labelFor a q) (readyRecord q source c))
 ready-encoded a q source c s l =
     all-legal a (readyRecord q source c)
     (ap (λ (b : Bool). leb source 3 && b) (ready-listed q c) ∙ ap (λ (b : Bool). b && true) (le-leb source 3 s))
     (ready-legal q c l)
-
--- ---- what a word of a kind holds
-
--- the quantity of a word of a kind, and what its count bits hold
-abbrev pub held : Measured → ℕ → Measurement
-held (Measured.As q) w = Measurement.Count q (countBits q w)
-held Measured.Nothing w = Measurement.Nothing
-
-pub measurement-held : (k : Kind) (w : ℕ) → measurementOf (bodyOf k w) ≡ held (quantityOf k) w
-measurement-held Kind.VorAzimuth w = refl
-measurement-held Kind.VorFrequency w = refl
-measurement-held Kind.IlsCourse w = refl
-measurement-held Kind.IlsGlide w = refl
-measurement-held Kind.IlsFrequency w = refl
-measurement-held Kind.MlsFrequency w = refl
-measurement-held Kind.MlsAzimuthDeviation w = refl
-measurement-held Kind.MlsGlideDeviation w = refl
-measurement-held Kind.SelectedAzimuth w = refl
-measurement-held Kind.GreatestGlideAngle w = refl
-measurement-held Kind.SelectedGlideAngle w = refl
-measurement-held Kind.Part1 w = refl
-measurement-held Kind.Part2 w = refl
-measurement-held Kind.Part3 w = refl
-measurement-held Kind.Part4 w = refl
-
-pub ready-measurement : (q : Quantity) (c : ℤ) → measurementOf (readyBody q c) ≡ Measurement.Count q c
-ready-measurement Azimuth c = refl
-ready-measurement Course c = refl
-ready-measurement Glide c = refl
-ready-measurement MlsAzimuth c = refl
-ready-measurement MlsGlide c = refl
-
-same-count : {q : Quantity} {c d : ℤ} → Measurement.Count q c ≡ Measurement.Count q d → c ≡ d
-same-count e = cc
+    ∙ ap Encoded.Word (ready-under a q source c)
 
 -- ---- the word of a legal count
 
+-- the count of a ready record is what the word's count bits hold
+count-held : (q : Quantity) (w : ℕ) (c : ℤ) → bodyOf (kindFor q) w ≡ readyBody q c → countBits q w ≡ c
+count-held Azimuth w c e = let h : _≡_ {A = AzimuthCount} (record { 0 = countBits Azimuth w }) (record { 0 = c }) = cc in ap (λ (n : AzimuthCount). n .0) h
+count-held Course w c e = let h : _≡_ {A = CourseCount} (record { 0 = countBits Course w }) (record { 0 = c }) = cc in ap (λ (n : CourseCount). n .0) h
+count-held Glide w c e = let h : _≡_ {A = GlideCount} (record { 0 = countBits Glide w }) (record { 0 = c }) = cc in ap (λ (n : GlideCount). n .0) h
+count-held MlsAzimuth w c e = let h : _≡_ {A = MlsCount} (record { 0 = countBits MlsAzimuth w }) (record { 0 = c }) = cc in ap (λ (n : MlsCount). n .0) h
+count-held MlsGlide w c e = let h : _≡_ {A = MlsCount} (record { 0 = countBits MlsGlide w }) (record { 0 = c }) = cc in ap (λ (n : MlsCount). n .0) h
+
 module _ (a : Assignment) (q : Quantity) (source : ℕ) (c : ℤ) (s : source ≤ 3) (l : Legal (scaleOf q) c) where
   abbrev word : ℕ
-  word = wordOf a (readyRecord q source c)
+  word = wordAs (labelFor a q) (readyRecord q source c)
 
   pub ready-decoded : (word < 2 ^ 32) × (decodeWith a word ≡ Decoded.Accepted (readyRecord q source c))
   ready-decoded = encode-decode a (readyRecord q source c) word (ready-encoded a q source c s l)
@@ -174,12 +154,7 @@ module _ (a : Assignment) (q : Quantity) (source : ℕ) (c : ℤ) (s : source �
 
   -- its count bits hold the count
   pub ready-count : countBits q word ≡ c
-  ready-count =
-      same-count
-      (ap (λ (m : Measured). held m word) (sym (quantity-of-kind q) ∙ ap quantityOf (sym kind))
-      ∙ sym (measurement-held (reads .0) word)
-      ∙ ap (λ (r : Record). measurementOf (r .body)) (sym (reads .2))
-      ∙ ready-measurement q c)
+  ready-count = count-held q word c (ap (λ (k : Kind). bodyOf k word) (sym kind) ∙ ap (λ (r : Record). r .body) (sym (reads .2)))
 
   pub ready-word : ReadyWord a q source word
   ready-word =
@@ -191,16 +166,19 @@ module _ (a : Assignment) (q : Quantity) (source : ℕ) (c : ℤ) (s : source �
 
 -- ---- one step of the order at a time
 
-pub legal-source : (a : Assignment) (q : Quantity) (source : ℕ) (figure : ℤ) → source ≤ 3
-    → codedQuantity a q source figure ≡ codedNearest a q source (nearestCount q figure)
-legal-source a q source figure s = rw (le-leb source 3 s)
+pub legal-source : (q : Quantity) (label source : ℕ) (figure : ℤ) → source ≤ 3
+    → codedUnder q label source figure ≡ codedNearest q label source (nearestCount q figure)
+legal-source q label source figure s = rw (le-leb source 3 s)
 
-pub illegal-source : (a : Assignment) (q : Quantity) (source : ℕ) (figure : ℤ) → 3 < source
-    → codedQuantity a q source figure ≡ Encoded.Refused Refusal.Code
-illegal-source a q source figure s = rw (lt-leb source 3 s)
+pub illegal-source : (q : Quantity) (label source : ℕ) (figure : ℤ) → 3 < source
+    → codedUnder q label source figure ≡ Encoded.Refused Refusal.Code
+illegal-source q label source figure s = rw (lt-leb source 3 s)
 
--- under the label of a quantity and a legal source
+-- under the label of a quantity that quantity is coded
+pub coded-under : (a : Assignment) (q : Quantity) (source : ℕ) (figure : ℤ) → codedWith a (labelFor a q) source figure ≡ codedUnder q (labelFor a q) source figure
+coded-under a q source figure = ap (λ (m : Measured). codedMeasured m (labelFor a q) source figure) (quantity-of-label a q)
+
+-- and with a legal source the nearest count
 pub coded-nearest : (a : Assignment) (q : Quantity) (source : ℕ) (figure : ℤ) → source ≤ 3
-    → codedWith a (labelFor a q) source figure ≡ codedNearest a q source (nearestCount q figure)
-coded-nearest a q source figure s =
-    ap (λ (m : Measured). codedMeasured a m source figure) (quantity-of-label a q) ∙ legal-source a q source figure s
+    → codedWith a (labelFor a q) source figure ≡ codedNearest q (labelFor a q) source (nearestCount q figure)
+coded-nearest a q source figure s = coded-under a q source figure ∙ legal-source q (labelFor a q) source figure s

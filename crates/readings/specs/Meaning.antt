@@ -4,7 +4,7 @@ use mathlib.Core.Path.{_≡_, refl, ap, subst}
 use mathlib.Core.Logic.{_⊎_, inl, inr, _↔_}
 use mathlib.Core.Bool.{false}
 use borrow.Author.Tests.{eqb-false}
-use lib.Dec.{eqb}
+use lib.Dec.{T, eqb}
 use lib.IntN.{pos, _*ℤ_}
 use lib.Ieee.{Float}
 use Rattle.codes.specs.Codes.{binaryCode}
@@ -17,7 +17,7 @@ use Rattle.views.specs.Views.{viewOf}
 use Rattle.views.specs.declared.Setting.{Setting}
 use Rattle.views.specs.declared.Value.{Value}
 use Rattle.views.specs.declared.View.{View}
-use Rattle.readings.specs.Readings.{shownUnder, readingOf}
+use Rattle.readings.specs.Readings.{shownUnder, hasReading, readingOf}
 use Rattle.readings.specs.declared.Reading.{Reading}
 use Rattle.readings.specs.declared.Shown.{Shown}
 
@@ -78,9 +78,7 @@ Shows body shown = ShownBy (HasStatus body) (IsReading body) shown
 
 -- there is a reading
 abbrev pub HasReading : Shown → Type 0
-HasReading (Shown.Ready r) = Unit {0}
-HasReading (Shown.Test r) = Unit {0}
-HasReading Shown.Absent = ⊥
+HasReading shown = T (hasReading shown)
 
 -- the reading is marked as a test's
 abbrev pub IsTest : Shown → Type 0

@@ -1,10 +1,12 @@
 -- The reading of a record's body, by its kind and status.
 -- Assumes nothing.
+use mathlib.Core.Path.{_≡_, refl}
+use mathlib.Core.Bool.{Bool, true, false}
 use lib.IntN.{ℤ, pos, _*ℤ_}
 use Rattle.records.specs.declared.Body.{Body}
 use Rattle.codes.specs.declared.Status.{Status}
 use Rattle.doubles.specs.Doubles.{degreesOf, courseOf, glideOf}
-use Rattle.views.specs.Views.{viewOf}
+use Rattle.views.specs.Views.{isShown, viewOf}
 use Rattle.views.specs.declared.Value.{Value}
 use Rattle.views.specs.declared.View.{View}
 use Rattle.readings.specs.declared.Reading.{Reading}
@@ -42,6 +44,12 @@ shownUnder Status.NoData reading = Shown.Absent
 shownUnder Status.Test reading = Shown.Test reading
 shownUnder Status.Ready reading = Shown.Ready reading
 
+-- there is a reading
+abbrev pub hasReading : Shown → Bool
+hasReading (Shown.Ready reading) = true
+hasReading (Shown.Test reading) = true
+hasReading Shown.Absent = false
+
 -- parts have none
 abbrev pub shownIn : View → Shown
 shownIn (View.Value status value) = shownUnder status (valueReading value)
@@ -49,3 +57,10 @@ shownIn (View.Part part content) = Shown.Absent
 
 abbrev pub readingOf : Body → Shown
 readingOf body = shownIn (viewOf body)
+
+-- a status shows a reading exactly where a value is shown under it (`isShown` of `views`)
+pub shown-under : (s : Status) (r : Reading) → hasReading (shownUnder s r) ≡ isShown s
+shown-under Status.Failure r = refl
+shown-under Status.NoData r = refl
+shown-under Status.Test r = refl
+shown-under Status.Ready r = refl

@@ -1,5 +1,6 @@
 // What a record reads: degrees, depth difference, nanovolts, a frequency or a setting.
 use codes::Status;
+use quantities::Quantity;
 use records::AzimuthCount;
 use records::Body;
 use records::CourseCount;
@@ -57,12 +58,12 @@ fn glide_reading(count: GlideCount) -> Reading
     Reading::DepthDifference(doubles::glide_difference(number))
 }
 
-// The reading of 151 and 152.
+// The reading of 151 and 152: nanovolts are the millionths of a millivolt that the count is printed as.
 fn mls_reading(count: MlsCount) -> Reading
     ensures { λ r. ⌜ r ≡ mlsReading (count .0) ⌝ }
 {
     let number = count.0;
-    Reading::Nanovolts((number as i64) * 73200)
+    Reading::Nanovolts(quantities::millionths(Quantity::MlsAzimuth, number))
 }
 
 // The reading of a value; its count, if it has one, is of 16 bits.

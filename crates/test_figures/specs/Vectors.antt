@@ -6,7 +6,7 @@ use lib.IntN.{ℤ}
 use Rattle.refusals.specs.Numbers.{numberOf}
 use Rattle.encode.specs.declared.Encoded.{Encoded}
 use Rattle.figures.specs.Coding.{codedOf}
-use Rattle.figures.specs.Agreement.{agreesOf}
+use Rattle.agreements.specs.Agreement.{agreesOf}
 use Rattle.test_figures.specs.declared.Answer.{Answer}
 use Rattle.test_figures.specs.declared.Expected.{Expected}
 

@@ -29,7 +29,7 @@ fn is_right(expected: Expected) -> bool
     match figures::code_figure(expected.label, expected.source, millionths) {
         Encoded::Word(word) => {
             (answer.refusal == 0)
-                & ((word as u64 == answer.word) & figures::agrees(word, millionths))
+                & ((word as u64 == answer.word) & agreements::agrees(word, millionths))
         }
         Encoded::Refused(refusal) => refusals::number(refusal) as u64 == answer.refusal,
     }

@@ -7,8 +7,8 @@ use lib.IntN.{ℤ, pos, negsuc}
 use Rattle.refusals.specs.Numbers.{numberOf}
 use Rattle.decode.specs.Decode.{decodeOf}
 use Rattle.decode.specs.declared.Decoded.{Decoded}
-use Rattle.figures.specs.Agreement.{measurementOf}
-use Rattle.figures.specs.declared.Measurement.{Measurement}
+use Rattle.measurements.specs.Measurements.{measurementOf}
+use Rattle.measurements.specs.declared.Measurement.{Measurement}
 use Rattle.test_words.specs.declared.Expected.{Expected}
 
 -- the number of a word's refusal

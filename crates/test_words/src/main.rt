@@ -1,7 +1,7 @@
 // Decodes each word of the test vectors and compares its refusal and its count with what its line says: a word in hexadecimal, the number of
 // its refusal (0: accepted) and its count (0 where it has none), between single spaces. In the second file three lines are wrong.
 use decode::Decoded;
-use figures::Measurement;
+use measurements::Measurement;
 use test_vectors::Tally;
 ghost use mathlib.Core.Path.{_≡_};
 ghost use Rattle.decode.specs.Decode.{decodeOf};
@@ -42,7 +42,7 @@ fn count_of(word: u32) -> i16
     match decode::decode(word) {
         Decoded::Accepted(found) => {
             let body = found.body;
-            count_in(figures::measurement_of(body))
+            count_in(measurements::measurement_of(body))
         }
         Decoded::Refused(_) => 0,
     }

@@ -1,4 +1,4 @@
--- A reading's unit tells a measured word; and what each verdict means.
+-- How the code finds a verdict, and what a word must be for a figure to be compared with it.
 -- Assumes nothing.
 use mathlib.Core.Path.{_≡_, refl, sym, ap, ap₂, _∙_}
 use mathlib.Core.Bool.{Bool, true, false, _&&_, cond}
@@ -9,58 +9,42 @@ use borrow.Author.Tests.{eqb-true, eq-eqb}
 use lib.Dec.{eqb}
 use lib.IntN.{ℤ}
 use Rattle.bits.specs.Laws.{both-true}
-use Rattle.records.specs.declared.Body.{Body}
 use Rattle.records.specs.declared.Record.{Record}
 use Rattle.refusals.specs.declared.Refusal.{Refusal}
-use Rattle.codes.specs.declared.Status.{Status}
 use Rattle.labels.specs.Assignment.{document01}
 use Rattle.labels.specs.Label.{labelOf}
 use Rattle.decode.specs.Decode.{decodeOf}
 use Rattle.decode.specs.declared.Decoded.{Decoded}
-use Rattle.readings.specs.Readings.{shownUnder, readingOf}
-use Rattle.readings.specs.declared.Reading.{Reading}
-use Rattle.figures.specs.Agreement.{agreesOf, measurementOf, measured as measuredOf, isMeasured}
-use Rattle.figures.specs.Agreeing.{agrees-tested}
+use Rattle.readings.specs.Readings.{hasReading, readingOf}
+use Rattle.measurements.specs.Measurements.{measurementOf}
+use Rattle.measurements.specs.declared.Measurement.{Measurement}
+use Rattle.agreements.specs.Agreement.{agreesOf, decodedMeasurement, holdsNearest}
+use Rattle.agreements.specs.Agreeing.{agrees-tested}
 use Rattle.verdicts.specs.declared.Previous.{Previous}
 use Rattle.verdicts.specs.declared.Verdict.{Verdict}
-use Rattle.verdicts.specs.Verdicts.{measured, shown, comparable, isComparable, verdictOf, measuredReading, measuredShown}
+use Rattle.verdicts.specs.Verdicts.{isMeasured, comparable, isComparable, verdictOf, measurementVerdict}
 
--- ---- the unit tells a measured word
+-- ---- how the code finds the verdict
 
-under : (s : Status) (r : Reading) (b : Bool) → measuredReading r ≡ b → measuredShown (shownUnder s r) ≡ b && shown (shownUnder s r)
-under Status.Failure r true e = refl
-under Status.Failure r false e = refl
-under Status.NoData r true e = refl
-under Status.NoData r false e = refl
-under Status.Test r true e = e
-under Status.Test r false e = e
-under Status.Ready r true e = e
-under Status.Ready r false e = e
+-- a word of this label with a reading has the verdict of its measurement
+by-measurement : (m : Measurement) (same reading : Bool) (z : ℤ)
+    → cond (same && reading) (measurementVerdict m z) Verdict.Unmatched
+    ≡ cond (same && (isMeasured m && reading)) (cond (holdsNearest m z) Verdict.Agrees Verdict.Differs) Verdict.Unmatched
+by-measurement (Measurement.Count q c) same reading z = refl
+by-measurement Measurement.Nothing true true z = refl
+by-measurement Measurement.Nothing true false z = refl
+by-measurement Measurement.Nothing false reading z = refl
 
-pub measured-shown : (b : Body) → measuredShown (readingOf b) ≡ measured (measurementOf b) && shown (readingOf b)
-measured-shown (Body.VorAzimuth s m n) = under s _ true refl
-measured-shown (Body.VorFrequency s f) = under s _ false refl
-measured-shown (Body.IlsCourse s i n) = under s _ true refl
-measured-shown (Body.IlsGlide s i n) = under s _ true refl
-measured-shown (Body.IlsFrequency s c f) = under s _ false refl
-measured-shown (Body.MlsFrequency s f) = under s _ false refl
-measured-shown (Body.MlsAzimuthDeviation s i c n) = under s _ true refl
-measured-shown (Body.MlsGlideDeviation s i c n) = under s _ true refl
-measured-shown (Body.SelectedAzimuth s m d) = under s _ false refl
-measured-shown (Body.GreatestGlideAngle s t) = under s _ false refl
-measured-shown (Body.SelectedGlideAngle s m t) = under s _ false refl
-measured-shown (Body.Part1 n c) = refl
-measured-shown (Body.Part2 c) = refl
-measured-shown (Body.Part3 c) = refl
-measured-shown (Body.Part4 g c) = refl
-
--- an accepted word is compared by its label and the unit of its reading, and then by its count
-pub accepted-verdict : (w label : ℕ) (z : ℤ) {r : Record} (l : ℕ) (m b : Bool) → decodeOf w ≡ Decoded.Accepted r → l ≡ labelOf w → m ≡ measuredShown (readingOf (r .body)) → eqb l label && m ≡ b
-    → cond b (cond (isMeasured (measurementOf (r .body)) z) Verdict.Agrees Verdict.Differs) Verdict.Unmatched ≡ verdictOf (Previous.Word w) label z
-accepted-verdict w label z {r} l m b d e k h =
-    ap₂ (λ (x y : Bool). cond x (cond y Verdict.Agrees Verdict.Differs) Verdict.Unmatched)
-    (sym h ∙ ap₂ (λ (x : ℕ) (y : Bool). eqb x label && y) e (k ∙ measured-shown (r .body)) ∙ sym (ap (λ (x : Decoded). comparable x (labelOf w) label) d))
-    (sym (ap (λ (x : Decoded). isMeasured (measuredOf x) z) d) ∙ sym (agrees-tested document01 z w))
+-- and any other accepted word none
+pub accepted-verdict : (w label : ℕ) (z : ℤ) {r : Record} (l : ℕ) (h b : Bool) → decodeOf w ≡ Decoded.Accepted r → l ≡ labelOf w → h ≡ hasReading (readingOf (r .body)) → eqb l label && h ≡ b
+    → cond b (measurementVerdict (measurementOf (r .body)) z) Verdict.Unmatched ≡ verdictOf (Previous.Word w) label z
+accepted-verdict w label z {r} l h b d e k t =
+    ap (λ (x : Bool). cond x (measurementVerdict (measurementOf (r .body)) z) Verdict.Unmatched)
+    (sym t ∙ ap₂ (λ (x : ℕ) (y : Bool). eqb x label && y) e k)
+    ∙ by-measurement (measurementOf (r .body)) (eqb (labelOf w) label) (hasReading (readingOf (r .body))) z
+    ∙ sym
+    (ap (λ (x : Bool). cond (isComparable w label) (cond x Verdict.Agrees Verdict.Differs) Verdict.Unmatched) (agrees-tested document01 z w)
+    ∙ ap (λ (x : Decoded). cond (comparable x (labelOf w) label) (cond (holdsNearest (decodedMeasurement x) z) Verdict.Agrees Verdict.Differs) Verdict.Unmatched) d)
 
 -- and behind a refused word a figure is unmatched
 pub refused-verdict : (w label : ℕ) (z : ℤ) (f : Refusal) → decodeOf w ≡ Decoded.Refused f → Verdict.Unmatched ≡ verdictOf (Previous.Word w) label z
@@ -74,8 +58,8 @@ pub record Comparable (w label : ℕ) : Type 0 where
   pub «record» : Record
   pub accepted : decodeOf w ≡ Decoded.Accepted «record»
   pub label-same : labelOf w ≡ label
-  pub is-measured : measured (measurementOf («record» .body)) ≡ true
-  pub has-reading : shown (readingOf («record» .body)) ≡ true
+  pub is-measured : isMeasured (measurementOf («record» .body)) ≡ true
+  pub has-reading : hasReading (readingOf («record» .body)) ≡ true
 
 never : {A : Type 0} → false ≡ true → A
 never e = absurd (let z : _≡_ {A = ℕ} 0 1 = cc in omega arith)
@@ -85,8 +69,8 @@ comparable-exactly w label = (there (decodeOf w) refl, here)
   where
     there : (d : Decoded) → decodeOf w ≡ d → comparable d (labelOf w) label ≡ true → Comparable w label
     there (Decoded.Accepted r) e t =
-        let b = both-true (eqb (labelOf w) label) (measured (measurementOf (r .body)) && shown (readingOf (r .body))) t in
-        let d = both-true (measured (measurementOf (r .body))) (shown (readingOf (r .body))) (b .1) in
+        let b = both-true (eqb (labelOf w) label) (isMeasured (measurementOf (r .body)) && hasReading (readingOf (r .body))) t in
+        let d = both-true (isMeasured (measurementOf (r .body))) (hasReading (readingOf (r .body))) (b .1) in
         record { «record» = r; accepted = e; label-same = eqb-true (labelOf w) label (b .0); is-measured = d .0; has-reading = d .1 }
     there (Decoded.Refused f) e t = never t
 

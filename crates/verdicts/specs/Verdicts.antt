@@ -7,28 +7,22 @@ use lib.IntN.{ℤ}
 use Rattle.labels.specs.Label.{labelOf}
 use Rattle.decode.specs.Decode.{decodeOf}
 use Rattle.decode.specs.declared.Decoded.{Decoded}
-use Rattle.readings.specs.Readings.{readingOf}
-use Rattle.readings.specs.declared.Reading.{Reading}
-use Rattle.readings.specs.declared.Shown.{Shown}
-use Rattle.figures.specs.Agreement.{agreesOf, measurementOf}
-use Rattle.figures.specs.declared.Measurement.{Measurement}
+use Rattle.readings.specs.Readings.{hasReading, readingOf}
+use Rattle.quantities.specs.Nearest.{nearestCount}
+use Rattle.measurements.specs.Measurements.{measurementOf}
+use Rattle.measurements.specs.declared.Measurement.{Measurement}
+use Rattle.agreements.specs.Agreement.{agreesOf, isNearest}
 use Rattle.verdicts.specs.declared.Previous.{Previous}
 use Rattle.verdicts.specs.declared.Verdict.{Verdict}
 
 -- a measured word: it holds a count of a quantity
-abbrev pub measured : Measurement → Bool
-measured (Measurement.Count q c) = true
-measured Measurement.Nothing = false
-
--- there is a reading
-abbrev pub shown : Shown → Bool
-shown (Shown.Ready r) = true
-shown (Shown.Test r) = true
-shown Shown.Absent = false
+abbrev pub isMeasured : Measurement → Bool
+isMeasured (Measurement.Count q c) = true
+isMeasured Measurement.Nothing = false
 
 -- an accepted measured word of this label, with a reading. Sources are not compared.
 abbrev pub comparable : Decoded → ℕ → ℕ → Bool
-comparable (Decoded.Accepted r) wordLabel label = eqb wordLabel label && (measured (measurementOf (r .body)) && shown (readingOf (r .body)))
+comparable (Decoded.Accepted r) wordLabel label = eqb wordLabel label && (isMeasured (measurementOf (r .body)) && hasReading (readingOf (r .body)))
 comparable (Decoded.Refused f) wordLabel label = false
 
 abbrev pub isComparable : ℕ → ℕ → Bool
@@ -45,16 +39,8 @@ abbrev pub isRefused : Decoded → Bool
 isRefused (Decoded.Accepted r) = false
 isRefused (Decoded.Refused f) = true
 
--- ---- how the code finds it: by the reading's unit. `Theorems` says that this is the same.
+-- ---- how the code finds it: behind a word of this label with a reading, by what the word measures. `Theorems` says that this is the same.
 
-abbrev pub measuredReading : Reading → Bool
-measuredReading (Reading.Degrees x) = true
-measuredReading (Reading.DepthDifference x) = true
-measuredReading (Reading.Nanovolts n) = true
-measuredReading (Reading.Frequency f) = false
-measuredReading (Reading.Setting s) = false
-
-abbrev pub measuredShown : Shown → Bool
-measuredShown (Shown.Ready r) = measuredReading r
-measuredShown (Shown.Test r) = measuredReading r
-measuredShown Shown.Absent = false
+abbrev pub measurementVerdict : Measurement → ℤ → Verdict
+measurementVerdict (Measurement.Count q c) millionths = cond (isNearest (nearestCount q millionths) c) Verdict.Agrees Verdict.Differs
+measurementVerdict Measurement.Nothing millionths = Verdict.Unmatched

@@ -1,10 +1,12 @@
 // Whether a figure of a sheet agrees with the word just before it, and whether a word is refused.
 use decode::Decoded;
-use readings::Reading;
-use readings::Shown;
+use measurements::Measurement;
+use records::Body;
+use views::View;
 ghost use mathlib.Core.Bool.{cond};
 ghost use mathlib.Core.Path.{_≡_};
-ghost use Rattle.verdicts.specs.Verdicts.{measuredReading, measuredShown, verdictOf, isRefused};
+ghost use Rattle.readings.specs.Readings.{hasReading, readingOf};
+ghost use Rattle.verdicts.specs.Verdicts.{measurementVerdict, verdictOf, isRefused};
 
 // The field just before a figure in its group: a word, or anything else or nothing.
 pub enum Previous {
@@ -19,27 +21,13 @@ pub enum Verdict {
     Unmatched,
 }
 
-// Whether a reading is that of a measured quantity.
-fn is_measured_reading(reading: Reading) -> bool
-    ensures { λ r. ⌜ r ≡ measuredReading reading ⌝ }
+// Whether a body has a reading: a value, under a status that shows it.
+fn has_reading(body: Body) -> bool
+    ensures { λ r. ⌜ r ≡ hasReading (readingOf body) ⌝ }
 {
-    match reading {
-        Reading::Degrees(_) => true,
-        Reading::DepthDifference(_) => true,
-        Reading::Nanovolts(_) => true,
-        Reading::Frequency(_) => false,
-        Reading::Setting(_) => false,
-    }
-}
-
-// Whether there is a reading, and it is that of a measured quantity.
-fn is_measured(shown: Shown) -> bool
-    ensures { λ r. ⌜ r ≡ measuredShown shown ⌝ }
-{
-    match shown {
-        Shown::Ready(reading) => is_measured_reading(reading),
-        Shown::Test(reading) => is_measured_reading(reading),
-        Shown::Absent => false,
+    match views::view_of(body) {
+        View::Value(status, _) => views::is_shown(status),
+        View::Part(_, _) => false,
     }
 }
 
@@ -53,6 +41,18 @@ fn compared(agrees: bool) -> Verdict
     Verdict::Differs
 }
 
+// The verdict on a figure behind a word that has a reading, by what the word measures.
+fn measurement_verdict(measurement: Measurement, millionths: i64) -> Verdict
+    ensures { λ r. ⌜ r ≡ measurementVerdict measurement millionths ⌝ }
+{
+    match measurement {
+        Measurement::Count(quantity, count) => {
+            compared(agreements::count_agrees(quantity, count, millionths))
+        }
+        Measurement::Nothing => Verdict::Unmatched,
+    }
+}
+
 // What the listing says of a figure of this label, in millionths, behind a word. The word is decoded once.
 fn word_verdict(word: u32, label: u8, millionths: i64) -> Verdict
     ensures { λ r. ⌜ r ≡ verdictOf (Previous.Word word) label millionths ⌝ }
@@ -60,8 +60,8 @@ fn word_verdict(word: u32, label: u8, millionths: i64) -> Verdict
     match decode::decode(word) {
         Decoded::Accepted(record) => {
             let body = record.body;
-            if (labels::label_of(word) == label as u32) & is_measured(readings::reading_of(body)) {
-                return compared(figures::body_agrees(body, millionths));
+            if (labels::label_of(word) == label as u32) & has_reading(body) {
+                return measurement_verdict(measurements::measurement_of(body), millionths);
             }
             Verdict::Unmatched
         }

@@ -3,7 +3,7 @@
 use mathlib.Core.Path.{ap, _∙_}
 use mir.Syntax.{w64}
 use mir.Facts.{toZ-ofZ}
-use Rattle.figures.specs.Agreement.{agreesOf}
+use Rattle.agreements.specs.Agreement.{agreesOf}
 use borrow.Author.Needs.{needs}
 use Rattle.capi.proofs.lampcygnet_agrees.Statement.{statement}
 use Rattle.capi.proofs.lampcygnet_agrees.Tie as tie

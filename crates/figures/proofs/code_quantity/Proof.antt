@@ -5,7 +5,6 @@ use borrow.Author.Needs.{needs}
 use lib.IntN.{ℤ}
 use mir.Syntax.{w16}
 use mir.Facts.{toZ-ofZ}
-use Rattle.labels.specs.Assignment.{document01}
 use Rattle.quantities.specs.Nearest.{nearestCount}
 use Rattle.quantities.specs.declared.Nearest.{Nearest}
 use Rattle.figures.specs.Coding.{codedNearest}
@@ -15,7 +14,7 @@ use Rattle.figures.proofs.code_quantity.Statement.{statement}
 use Rattle.figures.proofs.code_quantity.Tie as tie
 
 returns : tie.Need-returns
-returns c = sym (illegal-source document01 (c .before .args .quantity) (c .before .args .source) (c .before .args .millionths) (search needs))
+returns c = sym (illegal-source (c .before .args .quantity) (c .before .args .label) (c .before .args .source) (c .before .args .millionths) (search needs))
 
 nearest-count-requires : tie.Need-nearest-count-requires
 nearest-count-requires c κs = search needs
@@ -36,22 +35,24 @@ returns-2 : tie.Need-returns-2
 returns-2 c =
     let start = c .before .before .before .before .before .before in
     let q = start .args .quantity in
+    let l = start .args .label in
     let s = start .args .source in
     let n = c .before .before .count .given in
     let nearest = c .before .before .before .before .nearest-count in
     ap Encoded.Word (c .ready-word .ensures)
-    ∙ ap (λ (z : ℤ). codedNearest document01 q s (Nearest.Count z)) (toZ-ofZ {w = w16} {z = n .0 .0} (search needs))
-    ∙ ap (codedNearest document01 q s) (sym (n .1) ∙ nearest .ensures ∙ ap (nearestCount q) (toZ-ofZ (start .fits .millionths)))
-    ∙ sym (legal-source document01 q s (start .args .millionths) (search needs))
+    ∙ ap (λ (z : ℤ). codedNearest q l s (Nearest.Count z)) (toZ-ofZ {w = w16} {z = n .0 .0} (search needs))
+    ∙ ap (codedNearest q l s) (sym (n .1) ∙ nearest .ensures ∙ ap (nearestCount q) (toZ-ofZ (start .fits .millionths)))
+    ∙ sym (legal-source q l s (start .args .millionths) (search needs))
 
 returns-3 : tie.Need-returns-3
 returns-3 c =
     let start = c .before .before .before .before in
     let q = start .args .quantity in
+    let l = start .args .label in
     let s = start .args .source in
-    ap (codedNearest document01 q s)
+    ap (codedNearest q l s)
     (sym (c .enum-told .given .1) ∙ c .before .before .nearest-count .ensures ∙ ap (nearestCount q) (toZ-ofZ (start .fits .millionths)))
-    ∙ sym (legal-source document01 q s (start .args .millionths) (search needs))
+    ∙ sym (legal-source q l s (start .args .millionths) (search needs))
 
 pub code-quantity-spec : {M : Type 1} → statement M
 code-quantity-spec =

@@ -6,35 +6,21 @@ use native.Mathlib.Omega.{arith}
 use borrow.Author.Needs.{needs}
 use mir.Facts.{toZ-ofZ}
 use Rattle.bits.specs.Parity.{withParity}
-use Rattle.labels.specs.declared.Row.{Row}
-use Rattle.labels.specs.Assignment.{document01}
-use Rattle.labels.specs.Label.{labelOf, label-lt}
-use Rattle.labels.specs.Table.{rowOf}
-use Rattle.figures.specs.Coding.{labelFor}
+use Rattle.labels.specs.Label.{label-lt}
 use Rattle.figures.specs.Ready.{readyBits, ready-small, ready-lower}
 use Rattle.figures.proofs.ready_word.Statement.{statement}
 use Rattle.figures.proofs.ready_word.Tie as tie
 
 -- bits 11 to 31
-upper-is : (c : tie.After-ready-bits) → c .ready-bits .result ≡ readyBits (c .before .before .before .args .quantity) (c .before .before .before .args .count)
-upper-is c = c .ready-bits .ensures ∙ ap (readyBits (c .before .before .before .args .quantity)) (toZ-ofZ (c .before .before .before .fits .count))
+upper-is : (c : tie.After-ready-bits) → c .ready-bits .result ≡ readyBits (c .before .args .quantity) (c .before .args .count)
+upper-is c = c .ready-bits .ensures ∙ ap (readyBits (c .before .args .quantity)) (toZ-ofZ (c .before .fits .count))
 
 upper-small : (c : tie.After-ready-bits) → c .ready-bits .result < 2097152
-upper-small c = subst (λ (x : ℕ). x < 2097152) (sym (upper-is c)) (ready-small (c .before .before .before .args .quantity) (c .before .before .before .args .count))
+upper-small c = subst (λ (x : ℕ). x < 2097152) (sym (upper-is c)) (ready-small (c .before .args .quantity) (c .before .args .count))
 
--- the byte of the quantity's label
-byte-is : (c : tie.After-label-of) → c .label-of .result ≡ labelOf (labelFor document01 (c .before .before .before .before .args .quantity))
-unfolding rowOf
-byte-is c = c .label-of .ensures ∙ ap (λ (r : Row). labelOf (r .label)) (c .before .before .row-of .ensures ∙ ap rowOf (c .before .before .before .kind-for .ensures))
-
+-- the byte of the label
 byte-small : (c : tie.After-label-of) → c .label-of .result < 256
-byte-small c = omega (arith, byte-is c, label-lt (labelFor document01 (c .before .before .before .before .args .quantity)))
-
-kind-for-requires : tie.Need-kind-for-requires
-kind-for-requires c κs = search needs
-
-row-of-requires : tie.Need-row-of-requires
-row-of-requires c κs = search needs
+byte-small c = subst (λ (x : ℕ). x < 256) (sym (c .label-of .ensures)) (label-lt (c .before .before .args .label))
 
 ready-bits-requires : tie.Need-ready-bits-requires
 ready-bits-requires c κs = search needs
@@ -65,18 +51,16 @@ add-result c = omega (arith, upper-small (c .before .before), byte-small (c .bef
 
 returns : tie.Need-returns
 returns c =
-    let a = c .before .before .before .before .before .args in
+    let a = c .before .before .before .args in
     let lower : ℕ → ℕ → ℕ = λ u b. (u * 4 + a .source) * 256 + b in
     ap (λ (p : ℕ). p * 2147483648 + lower (c .before .before .ready-bits .result) (c .before .label-of .result)) (c .parity-bit .ensures .0)
     ∙ ap (withParity 31)
-    (ap₂ lower (upper-is (c .before .before)) (byte-is (c .before)) ∙ sym (ready-lower document01 (a .quantity) (a .source) (a .count)))
+    (ap₂ lower (upper-is (c .before .before)) (c .before .label-of .ensures) ∙ sym (ready-lower (a .quantity) (a .label) (a .source) (a .count)))
 
 pub ready-word-spec : {M : Type 1} → statement M
 ready-word-spec =
     tie.close
     (tie.spec
-    kind-for-requires
-    row-of-requires
     ready-bits-requires
     mul-lower
     add-lower

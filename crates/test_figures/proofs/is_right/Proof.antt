@@ -9,7 +9,7 @@ use mir.Syntax.{w64}
 use mir.Facts.{toZ-ofZ}
 use Rattle.encode.specs.declared.Encoded.{Encoded}
 use Rattle.figures.specs.Coding.{codedOf}
-use Rattle.figures.specs.Agreement.{agreesOf}
+use Rattle.agreements.specs.Agreement.{agreesOf}
 use Rattle.test_figures.specs.Vectors.{given}
 use Rattle.test_figures.proofs.is_right.Statement.{statement}
 use Rattle.test_figures.proofs.is_right.Tie as tie

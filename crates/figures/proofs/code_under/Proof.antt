@@ -6,15 +6,14 @@ use lib.IntN.{ℤ}
 use mir.Syntax.{w64}
 use mir.Val.{toZ, ofZ}
 use mir.Facts.{toZ-ofZ}
-use Rattle.labels.specs.Assignment.{document01}
 use Rattle.encode.specs.declared.Encoded.{Encoded}
 use Rattle.quantities.specs.declared.Quantity.{Quantity}
-use Rattle.figures.specs.Coding.{codedQuantity}
-use Rattle.figures.proofs.code_by_quantity.Statement.{statement}
-use Rattle.figures.proofs.code_by_quantity.Tie as tie
+use Rattle.figures.specs.Coding.{codedUnder}
+use Rattle.figures.proofs.code_under.Statement.{statement}
+use Rattle.figures.proofs.code_under.Tie as tie
 
-arm : (s : tie.Start) {q : Quantity} {r : Encoded} → s .args .quantity ≡ q → r ≡ codedQuantity document01 q (s .args .source) (toZ w64 (ofZ w64 (s .args .millionths))) → r ≡ codedQuantity document01 (s .args .quantity) (s .args .source) (s .args .millionths)
-arm s h e = e ∙ ap₂ (λ (q : Quantity) (z : ℤ). codedQuantity document01 q (s .args .source) z) (sym h) (toZ-ofZ (s .fits .millionths))
+arm : (s : tie.Start) {q : Quantity} {r : Encoded} → s .args .quantity ≡ q → r ≡ codedUnder q (s .args .label) (s .args .source) (toZ w64 (ofZ w64 (s .args .millionths))) → r ≡ codedUnder (s .args .quantity) (s .args .label) (s .args .source) (s .args .millionths)
+arm s h e = e ∙ ap₂ (λ (q : Quantity) (z : ℤ). codedUnder q (s .args .label) (s .args .source) z) (sym h) (toZ-ofZ (s .fits .millionths))
 
 enum-told : tie.Need-enum-told
 enum-told c = search needs
@@ -61,8 +60,8 @@ returns-4 c = arm (c .before .before .before) (c .before .enum-told4 .given .1) 
 returns-5 : tie.Need-returns-5
 returns-5 c = arm (c .before .before .before) (c .before .enum-told5 .given .1) (c .code-quantity5 .ensures)
 
-pub code-by-quantity-spec : {M : Type 1} → statement M
-code-by-quantity-spec =
+pub code-under-spec : {M : Type 1} → statement M
+code-under-spec =
     tie.close
     (tie.spec
     enum-told

@@ -10,10 +10,10 @@ use mir.Syntax.{w16}
 use mir.Val.{SFits, toZ, ofZ}
 use mir.Facts.{toZ-ofZ}
 use Rattle.bits.specs.Laws.{same}
-use Rattle.figures.specs.Agreement.{equal}
-use Rattle.figures.specs.Agreeing.{equal-true, equal-same}
-use Rattle.figures.proofs.is_nearest.Statement.{statement}
-use Rattle.figures.proofs.is_nearest.Tie as tie
+use Rattle.agreements.specs.Agreement.{equal}
+use Rattle.agreements.specs.Agreeing.{equal-true, equal-same}
+use Rattle.agreements.proofs.is_nearest.Statement.{statement}
+use Rattle.agreements.proofs.is_nearest.Tie as tie
 
 -- two counts of 16 bits are equal exactly when their bits are
 equal-bits : (x y : ℤ) → SFits w16 x → SFits w16 y → eqb (ofZ w16 x) (ofZ w16 y) ≡ equal x y

@@ -5,10 +5,10 @@ use borrow.Author.Needs.{needs}
 use mir.Facts.{toZ-ofZ}
 use Rattle.labels.specs.Assignment.{document01}
 use Rattle.decode.specs.declared.Decoded.{Decoded}
-use Rattle.figures.specs.Agreement.{measured, isMeasured}
-use Rattle.figures.specs.Agreeing.{agrees-tested}
-use Rattle.figures.proofs.agrees.Statement.{statement}
-use Rattle.figures.proofs.agrees.Tie as tie
+use Rattle.agreements.specs.Agreement.{decodedMeasurement, holdsNearest}
+use Rattle.agreements.specs.Agreeing.{agrees-tested}
+use Rattle.agreements.proofs.agrees.Statement.{statement}
+use Rattle.agreements.proofs.agrees.Tie as tie
 
 decode-requires : tie.Need-decode-requires
 decode-requires c κs = search needs
@@ -16,25 +16,28 @@ decode-requires c κs = search needs
 enum-known-record : tie.Need-enum-known-record
 enum-known-record c = search needs
 
-body-agrees-requires : tie.Need-body-agrees-requires
-body-agrees-requires c κs = search needs
+measurement-of-requires : tie.Need-measurement-of-requires
+measurement-of-requires c κs = search needs
+
+holds-nearest-requires : tie.Need-holds-nearest-requires
+holds-nearest-requires c κs = search needs
 
 enum-told : tie.Need-enum-told
 enum-told c = search needs
 
 returns : tie.Need-returns
 returns c =
-    let start = c .before .before .before .before .before in
-    let decoded = sym (c .before .before .«record» .given .1) ∙ c .before .before .before .before .decode .ensures in
-    c .body-agrees .ensures
-    ∙ ap₂ isMeasured (ap measured decoded) (toZ-ofZ (start .fits .millionths))
+    let start = c .before .before .before .before .before .before in
+    let decoded = sym (c .before .before .before .«record» .given .1) ∙ c .before .before .before .before .before .decode .ensures in
+    c .holds-nearest .ensures
+    ∙ ap₂ holdsNearest (c .before .measurement-of .ensures ∙ ap decodedMeasurement decoded) (toZ-ofZ (start .fits .millionths))
     ∙ sym (agrees-tested document01 (start .args .millionths) (start .args .word))
 
 returns-2 : tie.Need-returns-2
 returns-2 c =
     let start = c .before .before .before in
     let decoded = sym (c .enum-told .given .1) ∙ c .before .before .decode .ensures in
-    ap (λ (d : Decoded). isMeasured (measured d) (start .args .millionths)) decoded
+    ap (λ (d : Decoded). holdsNearest (decodedMeasurement d) (start .args .millionths)) decoded
     ∙ sym (agrees-tested document01 (start .args .millionths) (start .args .word))
 
 pub agrees-spec : {M : Type 1} → statement M
@@ -43,7 +46,8 @@ agrees-spec =
     (tie.spec
     decode-requires
     enum-known-record
-    body-agrees-requires
+    measurement-of-requires
+    holds-nearest-requires
     enum-told
     returns
     returns-2)
