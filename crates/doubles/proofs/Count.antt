@@ -1,4 +1,5 @@
 -- The count that the machine reads back from its 16 bits is the count, so that what holds of a definition at every count holds of the code's result.
+-- Assumes nothing.
 use mathlib.Core.Path.{_≡_, ap, sym, subst}
 use lib.IntN.{ℤ}
 use lib.Ieee.{Float}

@@ -1,4 +1,5 @@
 -- The doubles of readings (document 01, "Readings, figures and joined groups"): which IEEE 754 operations give each, and what value it has.
+-- Assumes nothing.
 use mathlib.Core.Path.{_≡_, refl, sym, subst}
 use Prim.Native.Nat.{ℕ, _*_, _%_, _^_, _≤_, _<_}
 use native.Mathlib.Nat.{lt-of-le-of-lt, mul-pos}

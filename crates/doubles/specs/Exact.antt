@@ -1,4 +1,5 @@
 -- What it means that a double has exactly the value of a fraction (`IsExactly`), and the law that count × multiplier / 1024 is computed so (`scaled-exact`).
+-- Assumes nothing.
 use mathlib.Core.Path.{_≡_, refl, sym, ap, _∙_, subst}
 use Prim.Native.Nat.{ℕ, zero, suc, _+_, _-_, _*_, _^_, _≤_, _<_}
 use native.Mathlib.Nat.{le-trans, le-of-lt, lt-of-le-of-lt, lt-of-lt-of-le, lt-irrefl, mul-one, mul-assoc, mul-comm, mul-left-comm, mul-mul-mul-comm, mul-le-mul, mul-pos, zero-mul, zero-lt-suc, eq-of-mul-eq-mul-right, suc-inj}

@@ -1,4 +1,5 @@
 -- What it means that a double is the one nearest to a fraction, in whole numbers: both sides multiplied by the divisors.
+-- Assumes nothing.
 use mathlib.Core.Logic.{_⊎_}
 use Prim.Native.Nat.{ℕ, _+_, _-_, _*_, _<_}
 use mathlib.Core.Bool.{Bool, Bool·beq, cond}

@@ -1,4 +1,5 @@
 -- `round` of lib.Ieee, with which a division ends, gives the double nearest to the fraction: it takes the nearest multiple of the step between doubles there, and smaller steps begin only below a power of two.
+-- Assumes nothing.
 use mathlib.Core.Path.{_≡_, refl, sym, ap, _∙_, subst}
 use mathlib.Core.Logic.{_⊎_, inl, inr}
 use Prim.Native.Nat.{ℕ, zero, suc, _+_, _-_, _*_, _/_, _%_, _^_, _≤_, _<_, zero-le, compare, Ordering, Ordering·lt, Ordering·eq, Ordering·gt}

@@ -3,9 +3,10 @@
 use mathlib.Core.Path.{_≡_, refl, ap, subst}
 use mathlib.Core.Logic.{_⊎_, inl, inr, _↔_}
 use mathlib.Core.Bool.{false}
+use Prim.Native.Nat.{ℕ}
 use borrow.Author.Tests.{eqb-false}
 use lib.Dec.{T, eqb}
-use lib.IntN.{pos, _*ℤ_}
+use lib.IntN.{ℤ, pos, _*ℤ_}
 use lib.Ieee.{Float}
 use Rattle.codes.specs.Codes.{binaryCode}
 use Rattle.records.specs.declared.Body.{Body}
@@ -17,7 +18,7 @@ use Rattle.views.specs.Views.{viewOf}
 use Rattle.views.specs.declared.Setting.{Setting}
 use Rattle.views.specs.declared.Value.{Value}
 use Rattle.views.specs.declared.View.{View}
-use Rattle.readings.specs.Readings.{shownUnder, hasReading, readingOf}
+use Rattle.readings.specs.Readings.{valueReading, shownUnder, hasReading, readingOf}
 use Rattle.readings.specs.declared.Reading.{Reading}
 use Rattle.readings.specs.declared.Shown.{Shown}
 
@@ -39,14 +40,22 @@ HasStatus (Body.Part2 content) s = ⊥
 HasStatus (Body.Part3 content) s = ⊥
 HasStatus (Body.Part4 good content) s = ⊥
 
+-- a reading in degrees, exactly count × 45 / 1024
+abbrev pub IsDegrees : ℤ → Reading → Type 0
+IsDegrees count r = (x : Float) × (r ≡ Reading.Degrees x) × IsExactly x (count *ℤ pos 45) 1024
+
+-- a reading in depth difference, the double nearest to count / divisor
+abbrev pub IsDifference : ℕ → ℤ → Reading → Type 0
+IsDifference divisor count r = (x : Float) × (r ≡ Reading.DepthDifference x) × IsNearest x count divisor
+
 -- A reading is that of a body: 222 in degrees, exactly count × 45 / 1024; 173 and 174 in depth difference, the double nearest to
 -- count / 10240 and count / 5120; 151 and 152 in nanovolts, 73,200 a count; frequencies in tens of kHz; 153 in degrees, 154 and 155
 -- in tenths of a degree. A part has none.
 abbrev pub IsReading : Body → Reading → Type 0
-IsReading (Body.VorAzimuth status marker count) r = (x : Float) × (r ≡ Reading.Degrees x) × IsExactly x (count .0 *ℤ pos 45) 1024
+IsReading (Body.VorAzimuth status marker count) r = IsDegrees (count .0) r
 IsReading (Body.VorFrequency status frequency) r = r ≡ Reading.Frequency frequency
-IsReading (Body.IlsCourse status inhibit count) r = (x : Float) × (r ≡ Reading.DepthDifference x) × IsNearest x (count .0) 10240
-IsReading (Body.IlsGlide status inhibit count) r = (x : Float) × (r ≡ Reading.DepthDifference x) × IsNearest x (count .0) 5120
+IsReading (Body.IlsCourse status inhibit count) r = IsDifference 10240 (count .0) r
+IsReading (Body.IlsGlide status inhibit count) r = IsDifference 5120 (count .0) r
 IsReading (Body.IlsFrequency status category frequency) r = r ≡ Reading.Frequency frequency
 IsReading (Body.MlsFrequency status frequency) r = r ≡ Reading.Frequency frequency
 IsReading (Body.MlsAzimuthDeviation status inhibit clearance count) r = r ≡ Reading.Nanovolts (count .0 *ℤ pos 73200)
@@ -86,6 +95,21 @@ IsTest (Shown.Ready r) = ⊥
 IsTest (Shown.Test r) = Unit {0}
 IsTest Shown.Absent = ⊥
 
+-- a reading is that of a value which a record shows
+abbrev pub Reads : Value → Reading → Type 0
+Reads (Value.Azimuth count) r = IsDegrees (count .0) r
+Reads (Value.Course count) r = IsDifference 10240 (count .0) r
+Reads (Value.Glide count) r = IsDifference 5120 (count .0) r
+Reads (Value.MlsAzimuth count) r = r ≡ Reading.Nanovolts (count .0 *ℤ pos 73200)
+Reads (Value.MlsGlide count) r = r ≡ Reading.Nanovolts (count .0 *ℤ pos 73200)
+Reads (Value.Frequency frequency) r = r ≡ Reading.Frequency frequency
+Reads (Value.Setting setting) r = r ≡ Reading.Setting setting
+
+-- the definition's reading of a view's value is that of the value
+abbrev pub ViewReads : View → Type 0
+ViewReads (View.Value status value) = Reads value (valueReading value)
+ViewReads (View.Part part content) = Unit {0}
+
 -- the count, where a value has one, is of the 16 bits that a record holds it in
 abbrev pub ValueFits : Value → Type 0
 ValueFits (Value.Azimuth count) = IsCount (count .0)
@@ -109,18 +133,18 @@ CountFits body = ViewFits (viewOf body)
 module _ (P : (Status → Type 0) → (Reading → Type 0) → Type 0 → Shown → Type 0)
     (status-word : (s : Status) (R : Reading → Type 0) (F : Type 0) (r : Reading) → (F → R r) → P (λ t. s ≡ t) R F (shownUnder s r))
     (part : (R : Reading → Type 0) (F : Type 0) → P (λ t. ⊥) R F Shown.Absent) where
-  by-kind : (b : Body) → P (HasStatus b) (IsReading b) (CountFits b) (readingOf b)
-  by-kind (Body.VorAzimuth s m n) = status-word s _ _ _ (λ h. (degreesOf (n .0), refl, degrees-exact (n .0) h))
-  by-kind (Body.VorFrequency s f) = status-word s _ _ _ (λ h. refl)
-  by-kind (Body.IlsCourse s i n) = status-word s _ _ _ (λ h. (courseOf (n .0), refl, course-nearest (n .0) h))
-  by-kind (Body.IlsGlide s i n) = status-word s _ _ _ (λ h. (glideOf (n .0), refl, glide-nearest (n .0) h))
-  by-kind (Body.IlsFrequency s c f) = status-word s _ _ _ (λ h. refl)
-  by-kind (Body.MlsFrequency s f) = status-word s _ _ _ (λ h. refl)
-  by-kind (Body.MlsAzimuthDeviation s i c n) = status-word s _ _ _ (λ h. refl)
-  by-kind (Body.MlsGlideDeviation s i c n) = status-word s _ _ _ (λ h. refl)
-  by-kind (Body.SelectedAzimuth s m d) = status-word s _ _ _ (λ h. refl)
-  by-kind (Body.GreatestGlideAngle s t) = status-word s _ _ _ (λ h. refl)
-  by-kind (Body.SelectedGlideAngle s m t) = status-word s _ _ _ (λ h. refl)
+  by-kind : (b : Body) → P (HasStatus b) (IsReading b) (ViewReads (viewOf b)) (readingOf b)
+  by-kind (Body.VorAzimuth s m n) = status-word s _ _ _ (λ h. h)
+  by-kind (Body.VorFrequency s f) = status-word s _ _ _ (λ h. h)
+  by-kind (Body.IlsCourse s i n) = status-word s _ _ _ (λ h. h)
+  by-kind (Body.IlsGlide s i n) = status-word s _ _ _ (λ h. h)
+  by-kind (Body.IlsFrequency s c f) = status-word s _ _ _ (λ h. h)
+  by-kind (Body.MlsFrequency s f) = status-word s _ _ _ (λ h. h)
+  by-kind (Body.MlsAzimuthDeviation s i c n) = status-word s _ _ _ (λ h. h)
+  by-kind (Body.MlsGlideDeviation s i c n) = status-word s _ _ _ (λ h. h)
+  by-kind (Body.SelectedAzimuth s m d) = status-word s _ _ _ (λ h. h)
+  by-kind (Body.GreatestGlideAngle s t) = status-word s _ _ _ (λ h. h)
+  by-kind (Body.SelectedGlideAngle s m t) = status-word s _ _ _ (λ h. h)
   by-kind (Body.Part1 n c) = part _ _
   by-kind (Body.Part2 c) = part _ _
   by-kind (Body.Part3 c) = part _ _
@@ -158,10 +182,28 @@ shown-right Status.Ready R F r k h = record {
   right = λ q e. subst R e (k h);
 }
 
-pub reading-right : (b : Body) → CountFits b → Shows b (readingOf b)
-reading-right =
+-- of a body whose value's reading is right
+pub shows-right : (b : Body) → ViewReads (viewOf b) → Shows b (readingOf b)
+shows-right =
     by-kind (λ S R F shown. F → ShownBy S R shown) shown-right
     (λ R F h. record { ready = λ e. absurd e; test = λ e. absurd e; absent = λ a b. refl; right = λ q e. absurd e })
+
+-- which it is where the count has 16 bits
+pub value-reads : (v : Value) → ValueFits v → Reads v (valueReading v)
+value-reads (Value.Azimuth n) h = (degreesOf (n .0), refl, degrees-exact (n .0) h)
+value-reads (Value.Course n) h = (courseOf (n .0), refl, course-nearest (n .0) h)
+value-reads (Value.Glide n) h = (glideOf (n .0), refl, glide-nearest (n .0) h)
+value-reads (Value.MlsAzimuth n) h = refl
+value-reads (Value.MlsGlide n) h = refl
+value-reads (Value.Frequency f) h = refl
+value-reads (Value.Setting s) h = refl
+
+view-reads : (v : View) → ViewFits v → ViewReads v
+view-reads (View.Value s v) h = value-reads v h
+view-reads (View.Part p c) h = tt
+
+pub reading-right : (b : Body) → CountFits b → Shows b (readingOf b)
+reading-right b h = shows-right b (view-reads (viewOf b) h)
 
 -- ---- demand 2: a reading is shown exactly when the status says ready or test
 

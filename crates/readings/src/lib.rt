@@ -10,7 +10,7 @@ use views::Setting;
 use views::Value;
 use views::View;
 ghost use mathlib.Core.Path.{_≡_};
-ghost use Rattle.readings.specs.Meaning.{ValueFits, Shows};
+ghost use Rattle.readings.specs.Meaning.{Reads, Shows};
 ghost use Rattle.readings.specs.Readings.{azimuthReading, courseReading, glideReading, mlsReading, valueReading, shownUnder, readingOf};
 
 // A quantity with its unit (document 01's term is a reading).
@@ -38,24 +38,21 @@ pub enum Shown {
 fn azimuth_reading(count: AzimuthCount) -> Reading
     ensures { λ r. ⌜ r ≡ azimuthReading (count .0) ⌝ }
 {
-    let number = count.0;
-    Reading::Degrees(doubles::azimuth_degrees(number))
+    Reading::Degrees(doubles::azimuth_degrees(count))
 }
 
 // The reading of 173.
 fn course_reading(count: CourseCount) -> Reading
     ensures { λ r. ⌜ r ≡ courseReading (count .0) ⌝ }
 {
-    let number = count.0;
-    Reading::DepthDifference(doubles::course_difference(number))
+    Reading::DepthDifference(doubles::course_difference(count))
 }
 
 // The reading of 174.
 fn glide_reading(count: GlideCount) -> Reading
     ensures { λ r. ⌜ r ≡ glideReading (count .0) ⌝ }
 {
-    let number = count.0;
-    Reading::DepthDifference(doubles::glide_difference(number))
+    Reading::DepthDifference(doubles::glide_difference(count))
 }
 
 // The reading of 151 and 152: nanovolts are the millionths of a millivolt that the count is printed as.
@@ -66,10 +63,10 @@ fn mls_reading(count: MlsCount) -> Reading
     Reading::Nanovolts(quantities::millionths(Quantity::MlsAzimuth, number))
 }
 
-// The reading of a value; its count, if it has one, is of 16 bits.
+// The reading of a value.
 fn value_reading(value: Value) -> Reading
     ensures operations { λ r. ⌜ r ≡ valueReading value ⌝ }
-    ensures fits { λ r. ⌜ ValueFits value ⌝ }
+    ensures values { λ r. ⌜ Reads value r ⌝ }
 {
     match value {
         Value::Azimuth(count) => azimuth_reading(count),

@@ -1,7 +1,7 @@
 -- The operations are those of `glideOf`, as the literal computes to the double of 5120; the value is the law's, `glide-nearest`.
+-- Assumes nothing.
 use borrow.Author.Needs.{needs}
 use lib.Ieee.{ofBits, ofInt}
-use Rattle.doubles.specs.Exact.{IsExactly, double, count-exact}
 use Rattle.doubles.specs.Nearest.{IsNearest}
 use Rattle.doubles.specs.Doubles.{glideOf, glide-nearest}
 use Rattle.doubles.proofs.Count.{at-count}
@@ -13,8 +13,7 @@ int-to-float-result c = search needs
 
 returns : tie.Need-returns
 unfolding ofBits ofInt
-returns c =
-    at-count glideOf (λ n x. IsExactly (double n) n 1 × IsNearest x n 5120) (λ n h. (count-exact n h, glide-nearest n h)) (c .before .args .count) (c .before .fits .count)
+returns c = at-count glideOf (λ n x. IsNearest x n 5120) glide-nearest (c .before .before .args .count .0) (search needs)
 
 pub glide-difference-spec : {M : Type 1} → statement M
 glide-difference-spec = tie.close (tie.spec int-to-float-result returns)

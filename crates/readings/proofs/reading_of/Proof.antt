@@ -1,21 +1,21 @@
 -- By the record's view (`arm`): the value's reading put under the status, and none of a part.
 -- Assumes nothing.
-use mathlib.Core.Path.{_≡_, refl, sym, ap, _∙_, subst⁻¹}
+use mathlib.Core.Path.{_≡_, refl, sym, ap, subst, subst⁻¹, _∙_}
 use borrow.Author.Needs.{needs}
 use Rattle.records.specs.declared.Body.{Body}
 use Rattle.views.specs.Views.{viewOf}
 use Rattle.views.specs.declared.View.{View}
 use Rattle.readings.specs.Readings.{shownUnder, shownIn, readingOf}
-use Rattle.readings.specs.Meaning.{ViewFits, Shows, reading-right}
+use Rattle.readings.specs.Meaning.{Reads, ViewReads, Shows, shows-right}
 use Rattle.readings.specs.declared.Shown.{Shown}
 use Rattle.readings.proofs.reading_of.Statement.{statement}
 use Rattle.readings.proofs.reading_of.Tie as tie
 
 -- what the definition gives of the view is what the contract asks of the body
-arm : (b : Body) {view : View} {shown : Shown} → viewOf b ≡ view → ViewFits view → shown ≡ shownIn view → (shown ≡ readingOf b) × Shows b shown
+arm : (b : Body) {view : View} {shown : Shown} → viewOf b ≡ view → ViewReads view → shown ≡ shownIn view → (shown ≡ readingOf b) × Shows b shown
 arm b {view} {shown} e h p =
     let q : shown ≡ readingOf b = p ∙ ap shownIn (sym e) in
-    (q, subst⁻¹ (Shows b) q (reading-right b (subst⁻¹ ViewFits e h)))
+    (q, subst⁻¹ (Shows b) q (shows-right b (subst⁻¹ ViewReads e h)))
 
 view-of-requires : tie.Need-view-of-requires
 view-of-requires c κs = search needs
@@ -36,7 +36,7 @@ returns : tie.Need-returns
 returns c =
     let view = c .before .before .before .status .given in
     let read = c .before .value-reading .ensures in
-    arm (c .before .before .before .before .before .before .args .body) (sym (c .before .before .before .before .before .view-of .ensures) ∙ view .1) (read .1) (c .shown-under .ensures ∙ ap (shownUnder (view .0 .0)) (read .0))
+    arm (c .before .before .before .before .before .before .args .body) (sym (c .before .before .before .before .before .view-of .ensures) ∙ view .1) (subst (Reads (view .0 .1 .0)) (read .0) (read .1)) (c .shown-under .ensures ∙ ap (shownUnder (view .0 .0)) (read .0))
 
 returns-2 : tie.Need-returns-2
 returns-2 c = arm (c .before .before .before .args .body) (sym (c .before .before .view-of .ensures) ∙ c .enum-told .given .1) tt refl

@@ -1,4 +1,5 @@
 -- Each arm's answer is the definition's at the status that the arm matched.
+-- Assumes nothing.
 use mathlib.Core.Path.{ap, sym}
 use Rattle.codes.specs.declared.Status.{Status}
 use Rattle.readings.specs.Readings.{shownUnder}

@@ -4,14 +4,14 @@ use mathlib.Core.Path.{_≡_, refl, sym, ap, _∙_, subst⁻¹}
 use borrow.Author.Needs.{needs}
 use Rattle.views.specs.declared.Value.{Value}
 use Rattle.readings.specs.Readings.{valueReading}
-use Rattle.readings.specs.Meaning.{ValueFits}
+use Rattle.readings.specs.Meaning.{Reads, ValueFits, value-reads}
 use Rattle.readings.specs.declared.Reading.{Reading}
 use Rattle.readings.proofs.value_reading.Statement.{statement}
 use Rattle.readings.proofs.value_reading.Tie as tie
 
 -- in an arm of the match the value is a known one
-arm : {v w : Value} {r : Reading} → v ≡ w → r ≡ valueReading w → ValueFits w → (r ≡ valueReading v) × ValueFits v
-arm e p h = (p ∙ sym (ap valueReading e), subst⁻¹ ValueFits e h)
+arm : {v w : Value} {r : Reading} → v ≡ w → r ≡ valueReading w → ValueFits w → (r ≡ valueReading v) × Reads v r
+arm {v} {w} {r} e p h = (p ∙ sym (ap valueReading e), subst⁻¹ (λ (u : Value). Reads u r) e (subst⁻¹ (Reads w) p (value-reads w h)))
 
 enum-known-value : tie.Need-enum-known-value
 enum-known-value c = search needs
