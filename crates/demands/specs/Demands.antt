@@ -14,7 +14,7 @@ use Rattle.figures.specs.Demand.{Demand3, Order}
 use Rattle.demands.specs.Inputs.{Demand1, demand1}
 use Rattle.demands.specs.Table.{table, labels}
 use Rattle.demands.specs.Words.{Demand2, demand2}
-use Rattle.demands.specs.Figures.{demand3, refusal-order}
+use Rattle.demands.specs.Figures.{CodedWord, demand3, coded-word, refusal-order}
 
 pub record Demands : Type 0 where
   -- 1. "Every entry point takes whatever number, word or sheet comes and ends. Bad input gets the refusal number of document 01, no record, and no byte written in a buffer we lent."
@@ -28,6 +28,7 @@ pub record Demands : Type 0 where
   pub marked : (b : Body) → IsTest (readingOf b) ↔ HasStatus b Status.Test
   -- 3. "Take any of the five measured quantities (azimuth, course, glide, and the two MLS deviations), any legal source and any figure in whole millionths that 64 bits can hold. .."
   pub third : Demand3 document01 codedOf millionthsOf
+  pub coded : CodedWord
   pub order : Order document01 codedOf
 
 -- All three hold.
@@ -39,5 +40,6 @@ demands = record {
   shown = reading-exactly;
   marked = test-exactly;
   third = demand3;
+  coded = coded-word;
   order = refusal-order;
 }

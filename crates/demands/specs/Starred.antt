@@ -50,11 +50,14 @@ of b = holds (record { source = 0; body = b })
 
 abbrev pub starred : List Line
 starred =
-    -- 222, ready, +90 degrees: 2048 x 45 / 1024; then -45
+    -- 222, ready, +90 degrees; then -45
     (word 0xE8000049 gives of (Body.VorAzimuth Status.Ready Marker.None (record { 0 = pos 2048 })))
+    ∷ (print 0xE8000049 gives prints (pos 90000000))
     ∷ (word 0xFC000049 gives of (Body.VorAzimuth Status.Ready Marker.None (record { 0 = negℤ (pos 1024) })))
-    -- course +0.1: 1024 / 10240; then count -1, which prints -0.000098
+    ∷ (print 0xFC000049 gives prints (negℤ (pos 45000000)))
+    -- course +0.1; then count -1, which prints -0.000098
     ∷ (word 0x640000DE gives of (Body.IlsCourse Status.Ready false (record { 0 = pos 1024 })))
+    ∷ (print 0x640000DE gives prints (pos 100000))
     ∷ (word 0x7FFF00DE gives of (Body.IlsCourse Status.Ready false (record { 0 = negℤ (pos 1) })))
     ∷ (print 0x7FFF00DE gives prints (negℤ (pos 98)))
     -- VOR 113.20 MHz, MLS 5090.70 MHz

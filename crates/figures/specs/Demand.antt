@@ -4,7 +4,7 @@
 use mathlib.Core.Path.{_≡_}
 use mathlib.Core.Logic.{_≢_, _⊎_, _↔_}
 use mathlib.Core.Bool.{false}
-use Prim.Native.Nat.{ℕ, _*_, _^_, _≤_, _<_}
+use Prim.Native.Nat.{ℕ, _-_, _*_, _/_, _^_, _≤_, _<_}
 use lib.IntN.{ℤ, pos, negℤ}
 use lib.Signed.{_≤ℤ_, _<ℤ_}
 use Rattle.bits.specs.Fields.{bits}
@@ -17,9 +17,10 @@ use Rattle.decode.specs.Decode.{decodeWith}
 use Rattle.decode.specs.declared.Decoded.{Decoded}
 use Rattle.encode.specs.declared.Encoded.{Encoded}
 use Rattle.quantities.specs.Scale.{scaleOf, onCircle}
-use Rattle.quantities.specs.Statements.{Legal, gap, Away}
+use Rattle.quantities.specs.Statements.{Legal, gap, Away, Printed}
 use Rattle.quantities.specs.declared.Quantity.{Quantity}
 use Rattle.figures.specs.Coding.{labelFor, readyRecord}
+use Rattle.figures.specs.Five.{rows, table}
 
 -- what the count bits of a word hold
 abbrev pub countBits : Quantity → ℕ → ℤ
@@ -39,6 +40,13 @@ pub record ReadyWord (a : Assignment) (q : Quantity) (source w : ℕ) : Type 0 w
 -- `code label source figure` is what coding a figure gives, and `print q c` the whole number of millionths printed for a count.
 -- "Take any of the five measured quantities, any legal source and any figure in whole millionths that 64 bits can hold."
 pub record Demand3 (a : Assignment) (code : ℕ → ℕ → ℤ → Encoded) (print : Quantity → ℤ → ℤ) : Type 0 where
+  -- the five quantities, each with its label, its step and its legal counts: `scaleOf` and `labelFor` are document 01's
+  pub five : rows a ≡ table a
+  -- "Steps: azimuth 45/1024 degree (bit 28 is 90 degrees); course 1/10240 and glide 1/5120 of modulation depth difference (bit 28 is half of 0.4 and of 0.8)":
+  -- the value of the count that bit 28 alone makes is that figure
+  pub bit-28-azimuth : gap (scaleOf Quantity.Azimuth) (pos 90000000) (countBits Quantity.Azimuth (2 ^ (28 - 1))) ≡ 0
+  pub bit-28-course : gap (scaleOf Quantity.Course) (pos (400000 / 2)) (countBits Quantity.Course (2 ^ (28 - 1))) ≡ 0
+  pub bit-28-glide : gap (scaleOf Quantity.Glide) (pos (800000 / 2)) (countBits Quantity.Glide (2 ^ (28 - 1))) ≡ 0
   -- "A course, glide or MLS figure is refused exactly when no legal value lies within half a step of it."
   pub deviation-refused : (q : Quantity) → onCircle q ≡ false → (source : ℕ) → source ≤ 3 → (figure : ℤ)
       → (code (labelFor a q) source figure ≡ Encoded.Refused Refusal.Reach)
@@ -65,6 +73,8 @@ pub record Demand3 (a : Assignment) (code : ℕ → ℕ → ℤ → Encoded) (pr
   -- "For azimuth we measure the shorter way round the circle." `Away` is that distance, the least over all whole turns; every count has one
   pub distance : (q : Quantity) (figure c : ℤ) → (d : ℕ) × Away q figure c d
   pub one-distance : (q : Quantity) (figure c : ℤ) (d e : ℕ) → Away q figure c d → Away q figure c e → d ≡ e
+  -- "Printing rounds the count's exact value to the nearest millionth, ties to the even one."
+  pub printed : (q : Quantity) (c : ℤ) → Printed q c (print q c)
   -- "And the value of every legal count, printed to six decimals, codes back to that count under every legal source."
   pub codes-back : (q : Quantity) (c : ℤ) → Legal (scaleOf q) c → (source : ℕ) → source ≤ 3
       → (w : ℕ) × (code (labelFor a q) source (print q c) ≡ Encoded.Word w) × (countBits q w ≡ c)

@@ -1,4 +1,4 @@
--- Demand 3 is met, and a count is printed as its nearest millionth, a tie to the even one.
+-- Demand 3 is met.
 -- Assumes nothing.
 use mathlib.Core.Path.{_≡_, refl, sym, ap, subst, _∙_}
 use mathlib.Core.Logic.{_⊎_, _↔_, inl, inr}
@@ -11,7 +11,7 @@ use Rattle.encode.specs.Encode.{wordAs}
 use Rattle.encode.specs.declared.Encoded.{Encoded}
 use Rattle.quantities.specs.Scale.{scaleOf}
 use Rattle.quantities.specs.Nearest.{nearestCount, millionthsOf}
-use Rattle.quantities.specs.Statements.{Legal, Beyond, Coded, Printed}
+use Rattle.quantities.specs.Statements.{Legal, Beyond, Coded}
 use Rattle.quantities.specs.Theorems as Quantities
 use Rattle.quantities.specs.declared.Nearest.{Nearest}
 use Rattle.quantities.specs.declared.Quantity.{Quantity}
@@ -78,6 +78,10 @@ module _ (a : Assignment) where
   pub demand3 : Demand3 a (codedWith a) millionthsOf
   demand3 =
       record {
+        five = refl;
+        bit-28-azimuth = refl;
+        bit-28-course = refl;
+        bit-28-glide = refl;
         deviation-refused = λ q line source s figure. rw line at (refused q source s figure);
         azimuth-refused = λ source s figure. refused Quantity.Azimuth source s figure;
         rest-coded = answered;
@@ -86,6 +90,7 @@ module _ (a : Assignment) where
         even-if-tied = λ q source s figure w e. nearest q source s figure w e .even;
         distance = Quantities.away;
         one-distance = Quantities.away-once;
+        printed = Quantities.printed;
         codes-back = λ q c l source s. let g = given q source s (millionthsOf q c) c (Quantities.codes-back q c l) in (g .0, g .1, g .3);
       }
 
@@ -103,10 +108,6 @@ demand3-of = demand3 document01
 
 pub order-of : Order document01 codedOf
 order-of = order document01
-
--- a count is printed as the nearest whole number of millionths to its value, a tie to the even one
-pub printed : (q : Quantity) (c : ℤ) → Printed q c (millionthsOf q c)
-printed = Quantities.printed
 
 -- both MLS deviations are printed alike
 pub mls-alike : (c : ℤ) → millionthsOf Quantity.MlsGlide c ≡ millionthsOf Quantity.MlsAzimuth c

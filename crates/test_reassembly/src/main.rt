@@ -37,7 +37,11 @@ fn says(text: &[u8], answer: WordAnswer, part: u64) -> bool {
         }
         WordAnswer::Complete(group) => {
             test_vectors::starts_with(text, b'j')
-                & is_joined(test_vectors::later_fields(rest), group.bits, group.parity_good)
+                & is_joined(
+                    test_vectors::later_fields(rest),
+                    group.bits,
+                    group.parity_good,
+                )
         }
         WordAnswer::Refused(refusal) => {
             let number = refusals::number(refusal);
