@@ -1,7 +1,7 @@
 -- What a word is to the reassembly of group C: the part that its record carries, or its refusal. Document 01, "The word" and "Refusal numbers".
 -- Assumes nothing.
 use Prim.Native.Nat.{ℕ, _+_, _*_}
-use mathlib.Core.Path.{_≡_, ap}
+use mathlib.Core.Path.{_≡_}
 use mathlib.Core.Bool.{false}
 use Rattle.bits.specs.Parity.{odd}
 use Rattle.records.specs.declared.Body.{Body}
@@ -13,7 +13,7 @@ use Rattle.labels.specs.Assignment.{Assignment, document01}
 use Rattle.labels.specs.declared.Lookup.{Lookup}
 use Rattle.labels.specs.declared.Lookup.the-variants.{Known, Unknown}
 use Rattle.decode.specs.declared.Decoded.{Decoded}
-use Rattle.decode.specs.Decode.{decodeAs, parity-broken as decode-even}
+use Rattle.decode.specs.Decode.{decodeAs}
 use Rattle.reassembly_parts.specs.declared.Part.the-variants.{One, Two, Three, Four}
 use Rattle.reassembly.specs.declared.PartIn.{PartIn}
 use Rattle.reassembly.specs.declared.PartIn.the-variants.{Carried, Refused}
@@ -71,4 +71,4 @@ abbrev pub partIn : ℕ → PartIn
 partIn w = partWith document01 w
 
 pub parity-broken : (a : Assignment) (w : ℕ) → odd w ≡ false → partWith a w ≡ Refused Parity
-parity-broken a w p = ap partRead (decode-even (onlyParts (a .kind (labelOf w))) w p)
+parity-broken a w p = rw p

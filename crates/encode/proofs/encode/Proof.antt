@@ -1,7 +1,6 @@
 -- The label is that of the record's kind, which has 8 bits.
 -- Assumes nothing.
 use mathlib.Core.Path.{ap, _∙_}
-use Prim.Native.Nat.{ℕ}
 use borrow.Author.Needs.{needs}
 use Rattle.labels.specs.declared.Row.{Row}
 use Rattle.labels.specs.Table.{rowOf}

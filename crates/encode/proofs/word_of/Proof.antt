@@ -1,11 +1,11 @@
 -- The label's byte, the source, the body's bits and the parity bit are the joined word, and every sum fits.
 -- Assumes nothing.
-use mathlib.Core.Path.{_≡_, sym, ap, ap₂, _∙_, subst}
+use mathlib.Core.Path.{sym, ap, ap₂, _∙_, subst}
 use Prim.Native.Nat.{ℕ, _+_, _*_, _<_}
 use native.Mathlib.Omega.{arith}
 use borrow.Author.Needs.{needs}
 use Rattle.bits.specs.Parity.{withParity}
-use Rattle.labels.specs.Label.{labelOf, label-lt}
+use Rattle.labels.specs.Label.{label-lt}
 use Rattle.encode.specs.Laws.{upper-lt}
 use Rattle.encode.proofs.word_of.Statement.{statement}
 use Rattle.encode.proofs.word_of.Tie as tie
