@@ -28,6 +28,7 @@ pub record Demands : Type 0 where
   pub marked : (b : Body) → IsTest (readingOf b) ↔ HasStatus b Status.Test
   -- 3. "Take any of the five measured quantities (azimuth, course, glide, and the two MLS deviations), any legal source and any figure in whole millionths that 64 bits can hold. .."
   pub third : Demand3 document01 codedOf millionthsOf
+  -- the coded word by its bits, and the refusals before 8
   pub coded : CodedWord
   pub order : Order document01 codedOf
 

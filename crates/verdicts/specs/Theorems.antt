@@ -26,7 +26,7 @@ use Rattle.verdicts.specs.Verdicts.{isMeasured, comparable, isComparable
 
 -- ---- how the code finds the verdict
 
--- a word of this label with a reading has the verdict of its measurement
+-- behind a word of this label with a reading, the verdict is that of its measurement
 by-measurement : (m : Measurement) (same reading : Bool) (z : ℤ)
     → cond (same && reading) (measurementVerdict m z) Verdict.Unmatched
     ≡ cond (same && (isMeasured m && reading)) (cond (holdsNearest m z) Verdict.Agrees Verdict.Differs) Verdict.Unmatched
@@ -35,7 +35,7 @@ by-measurement Measurement.Nothing true true z = refl
 by-measurement Measurement.Nothing true false z = refl
 by-measurement Measurement.Nothing false reading z = refl
 
--- and any other accepted word none
+-- so an accepted word is compared by its label, by whether it has a reading, and by what it measures
 pub accepted-verdict : (w label : ℕ) (z : ℤ) {r : Record} (l : ℕ) (h b : Bool) → decodeOf w ≡ Decoded.Accepted r → l ≡ labelOf w → h ≡ hasReading (readingOf (r .body)) → eqb l label && h ≡ b
     → cond b (measurementVerdict (measurementOf (r .body)) z) Verdict.Unmatched ≡ verdictOf (Previous.Word w) label z
 accepted-verdict w label z {r} l h b d e k t =
