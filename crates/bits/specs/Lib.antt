@@ -3,3 +3,4 @@ pub mod Layout
 pub mod Laws
 pub mod Parity
 pub mod Complement
+pub mod MachineLemmas
