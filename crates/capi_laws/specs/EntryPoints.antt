@@ -193,7 +193,7 @@ pub record EntryPoints : Type 0 where
   pub encode-record : (r : Record) → Bounded (r .body) → WordTells (ofEncoded (encodeOf r)) (encodeFlat (flatOf (Decoded.Accepted r)))
   -- lampcygnet_chart_point
   pub chart : (course glide : ℕ) → PointTells (ofCharted (chartPoint course glide)) (flatPoint (chartPoint course glide))
-  -- lampcygnet_code_figure, lampcygnet_print_count
+  -- lampcygnet_code_figure, lampcygnet_print_count; lampcygnet_agrees refuses nothing, and its contract says all
   pub figure : (label source : ℕ) (millionths : ℤ) → WordTells (ofEncoded (codedOf label source millionths)) (flatWord (codedOf label source millionths))
   pub count : (label : ℕ) (c : ℤ) → MillionthsTell (ofCount (quantityAt document01 label) c) (printedOf label c)
   -- lampcygnet_reassemble

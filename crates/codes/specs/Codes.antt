@@ -1,9 +1,9 @@
 -- The codes of statuses, markers and categories, and what each code means. The lowest bit of a field is its first in document 01's print:
--- "10" in bits 30, 31 is the number 1.
+-- "10" in bits 30, 31 is the number 1. A number outside its list is refused with 4 before anyone asks what it means; what it is taken for here is told last.
 -- Assumes nothing.
 use mathlib.Core.Path.{_≡_, refl, sym}
-use mathlib.Core.Bool.{Bool, true, false, _||_}
-use Prim.Native.Nat.{ℕ, zero, suc, _<_}
+use mathlib.Core.Bool.{Bool, true, false, _||_, false≢true}
+use Prim.Native.Nat.{ℕ, zero, suc, _≤_, _<_}
 use native.Mathlib.Omega.{arith}
 use borrow.Author.Tests.{eqb-true, ne-eqb}
 use lib.Dec.{eqb, ltb, lit<}
@@ -144,6 +144,46 @@ flag-bit (suc (suc n)) h = absurd (omega arith)
 pub flag-of : (b : Bool) → eqb (flagBit b) 1 ≡ b
 flag-of false = refl
 flag-of true = refl
+
+-- ---- a number outside its list: every function answers for every number, and these are the answers, by no rule of document 01
+
+abbrev pub unlistedBinary : Status
+unlistedBinary = Ready
+
+abbrev pub unlistedDecimal : Status
+unlistedDecimal = Failure
+
+abbrev pub unlistedMarker : Marker
+unlistedMarker = Inner
+
+abbrev pub unlistedCategory : Category
+unlistedCategory = III
+
+-- bits 30 and 31 of a binary word hold no such number
+pub binary-unlisted : (c : ℕ) → 4 ≤ c → binaryStatus c ≡ unlistedBinary
+binary-unlisted zero h = absurd (omega arith)
+binary-unlisted (suc zero) h = absurd (omega arith)
+binary-unlisted (suc (suc zero)) h = absurd (omega arith)
+binary-unlisted (suc (suc (suc n))) h = refl
+
+pub decimal-unlisted : (c : ℕ) → decimalListed c ≡ false → decimalStatus c ≡ unlistedDecimal
+decimal-unlisted zero h = absurd (false≢true (sym h))
+decimal-unlisted (suc zero) h = absurd (false≢true (sym h))
+decimal-unlisted (suc (suc zero)) h = absurd (false≢true (sym h))
+decimal-unlisted (suc (suc (suc n))) h = refl
+
+pub marker-unlisted : (c : ℕ) → markerListed c ≡ false → markerOf c ≡ unlistedMarker
+marker-unlisted zero h = absurd (false≢true (sym h))
+marker-unlisted (suc zero) h = absurd (false≢true (sym h))
+marker-unlisted (suc (suc zero)) h = absurd (false≢true (sym h))
+marker-unlisted (suc (suc (suc n))) h = refl
+
+-- bits 11 and 12 hold no such number
+pub category-unlisted : (c : ℕ) → 4 ≤ c → categoryOf c ≡ unlistedCategory
+category-unlisted zero h = absurd (omega arith)
+category-unlisted (suc zero) h = absurd (omega arith)
+category-unlisted (suc (suc zero)) h = absurd (omega arith)
+category-unlisted (suc (suc (suc n))) h = refl
 
 -- ---- every code fits its field
 

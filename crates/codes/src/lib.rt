@@ -27,7 +27,7 @@ pub enum Category {
     III,
 }
 
-// The status that bits 30 and 31 of a binary word mean.
+// The status that bits 30 and 31 of a binary word mean; of a number above 3 `unlistedBinary`.
 pub fn binary_status(code: u32) -> Status
     ensures { λ r. ⌜ r ≡ binaryStatus code ⌝ }
 {
@@ -52,7 +52,7 @@ pub fn binary_code(status: Status) -> u32
     }
 }
 
-// The status that bits 30 and 31 of a decimal word mean. No legal one means failure.
+// The status that bits 30 and 31 of a decimal word mean; of 3, which is no code, and of a number above it `unlistedDecimal`: no legal one means failure.
 pub fn decimal_status(code: u32) -> Status
     ensures { λ r. ⌜ r ≡ decimalStatus code ⌝ }
 {
@@ -84,7 +84,7 @@ pub fn is_marker(code: u32) -> bool
     (code == 0) | ((code == 1) | ((code == 2) | (code == 4)))
 }
 
-// The marker that a code means.
+// The marker that a code means; of a number in no list `unlistedMarker`.
 pub fn marker_of(code: u32) -> Marker
     ensures { λ r. ⌜ r ≡ markerOf code ⌝ }
 {
@@ -109,7 +109,7 @@ pub fn marker_code(marker: Marker) -> u32
     }
 }
 
-// The category that a code means.
+// The category that a code means; of a number above 3 `unlistedCategory`.
 pub fn category_of(code: u32) -> Category
     ensures { λ r. ⌜ r ≡ categoryOf code ⌝ }
 {

@@ -16,7 +16,7 @@ offset Vor = 10000
 offset Ils = 10000
 offset Mls = 500000
 
--- MLS tens 8 and 9 are sent as 0 and 1
+-- MLS tens 8 and 9 are sent as 0 and 1; every other number is taken for itself, 2 too, which is no code and is refused with 4 before
 abbrev pub mlsTens : ℕ → ℕ
 mlsTens zero = 8
 mlsTens (suc zero) = 9
