@@ -17,7 +17,7 @@ use Rattle.decode.specs.Decode.{decodeWith}
 use Rattle.decode.specs.declared.Decoded.{Decoded}
 use Rattle.encode.specs.declared.Encoded.{Encoded}
 use Rattle.quantities.specs.Scale.{scaleOf, onCircle}
-use Rattle.quantities.specs.Statements.{Legal, gap, Away, Printed}
+use Rattle.quantities.specs.Statements.{LegalCount, gap, Away, Printed}
 use Rattle.quantities.specs.declared.Quantity.{Quantity}
 use Rattle.figures.specs.Coding.{labelFor, readyRecord}
 use Rattle.figures.specs.Five.{rows, table}
@@ -50,7 +50,7 @@ pub record Demand3 (a : Assignment) (code : ℕ → ℕ → ℤ → Encoded) (pr
   -- "A course, glide or MLS figure is refused exactly when no legal value lies within half a step of it."
   pub deviation-refused : (q : Quantity) → onCircle q ≡ false → (source : ℕ) → source ≤ 3 → (figure : ℤ)
       → (code (labelFor a q) source figure ≡ Encoded.Refused Refusal.Reach)
-      ↔ ((c : ℤ) → Legal (scaleOf q) c → ¬ (2 * gap (scaleOf q) figure c ≤ scaleOf q .numerator))
+      ↔ ((c : ℤ) → LegalCount (scaleOf q) c → ¬ (2 * gap (scaleOf q) figure c ≤ scaleOf q .numerator))
   -- "An azimuth is refused exactly when it is below -180, or is 360 or more."
   pub azimuth-refused : (source : ℕ) → source ≤ 3 → (figure : ℤ)
       → (code (labelFor a Quantity.Azimuth) source figure ≡ Encoded.Refused Refusal.Reach)
@@ -61,14 +61,14 @@ pub record Demand3 (a : Assignment) (code : ℕ → ℕ → ℤ → Encoded) (pr
       ⊎ ((w : ℕ) × (code (labelFor a q) source figure ≡ Encoded.Word w) × ReadyWord a q source w)
   -- the coded count is a legal one
   pub legal : (q : Quantity) (source : ℕ) → source ≤ 3 → (figure : ℤ) (w : ℕ) → code (labelFor a q) source figure ≡ Encoded.Word w
-      → Legal (scaleOf q) (countBits q w)
+      → LegalCount (scaleOf q) (countBits q w)
   -- "No other legal count of that quantity then has a value nearer to the figure than the coded count's;"
   pub none-nearer : (q : Quantity) (source : ℕ) → source ≤ 3 → (figure : ℤ) (w : ℕ) → code (labelFor a q) source figure ≡ Encoded.Word w
-      → (other : ℤ) → Legal (scaleOf q) other
+      → (other : ℤ) → LegalCount (scaleOf q) other
       → (d e : ℕ) → Away q figure (countBits q w) d → Away q figure other e → d ≤ e
   -- "where another is equally near, the coded count is the even one."
   pub even-if-tied : (q : Quantity) (source : ℕ) → source ≤ 3 → (figure : ℤ) (w : ℕ) → code (labelFor a q) source figure ≡ Encoded.Word w
-      → (other : ℤ) → Legal (scaleOf q) other → other ≢ countBits q w
+      → (other : ℤ) → LegalCount (scaleOf q) other → other ≢ countBits q w
       → (d : ℕ) → Away q figure (countBits q w) d → Away q figure other d → Even (countBits q w)
   -- "For azimuth we measure the shorter way round the circle." `Away` is that distance, the least over all whole turns; every count has one
   pub distance : (q : Quantity) (figure c : ℤ) → (d : ℕ) × Away q figure c d
@@ -76,7 +76,7 @@ pub record Demand3 (a : Assignment) (code : ℕ → ℕ → ℤ → Encoded) (pr
   -- "Printing rounds the count's exact value to the nearest millionth, ties to the even one."
   pub printed : (q : Quantity) (c : ℤ) → Printed q c (print q c)
   -- "And the value of every legal count, printed to six decimals, codes back to that count under every legal source."
-  pub codes-back : (q : Quantity) (c : ℤ) → Legal (scaleOf q) c → (source : ℕ) → source ≤ 3
+  pub codes-back : (q : Quantity) (c : ℤ) → LegalCount (scaleOf q) c → (source : ℕ) → source ≤ 3
       → (w : ℕ) × (code (labelFor a q) source (print q c) ≡ Encoded.Word w) × (countBits q w ≡ c)
 
 -- "Coding a figure takes label, source and a signed 64-bit whole number of millionths. Order: 2, 4, 8." Demand 3 says when 8 is given.

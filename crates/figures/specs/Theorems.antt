@@ -11,7 +11,7 @@ use Rattle.encode.specs.Encode.{wordAs}
 use Rattle.encode.specs.declared.Encoded.{Encoded}
 use Rattle.quantities.specs.Scale.{scaleOf}
 use Rattle.quantities.specs.Nearest.{nearestCount, millionthsOf}
-use Rattle.quantities.specs.Statements.{Legal, Beyond, Coded}
+use Rattle.quantities.specs.Statements.{LegalCount, Beyond, Coded}
 use Rattle.quantities.specs.Theorems as Quantities
 use Rattle.quantities.specs.declared.Nearest.{Nearest}
 use Rattle.quantities.specs.declared.Quantity.{Quantity}
@@ -37,7 +37,7 @@ module _ (a : Assignment) where
   given : (q : Quantity) (source : ℕ) → source ≤ 3 → (figure c : ℤ) → nearestCount q figure ≡ Nearest.Count c
       → (w : ℕ) × (codedWith a (labelFor a q) source figure ≡ Encoded.Word w) × ReadyWord a q source w × (countBits q w ≡ c)
   given q source s figure c e =
-      let l : Legal (scaleOf q) c = Quantities.coded q figure c e .legal in (
+      let l : LegalCount (scaleOf q) c = Quantities.coded q figure c e .legal in (
         wordAs (labelFor a q) (readyRecord q source c),
         coded-nearest a q source figure s ∙ ap (codedNearest q (labelFor a q) source) e,
         ready-word a q source c s l,

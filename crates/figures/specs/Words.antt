@@ -32,7 +32,7 @@ use Rattle.roundtrip.specs.Back.{back}
 use Rattle.roundtrip.specs.RoundTrip.{encode-decode}
 use Rattle.quantities.specs.Scale.{scaleOf}
 use Rattle.quantities.specs.Nearest.{nearestCount}
-use Rattle.quantities.specs.Statements.{Legal}
+use Rattle.quantities.specs.Statements.{LegalCount}
 use Rattle.quantities.specs.declared.Quantity.{Quantity}
 use Rattle.quantities.specs.declared.Quantity.the-variants.{Azimuth, Course, Glide, MlsAzimuth, MlsGlide}
 use Rattle.figures.specs.declared.Measured.{Measured}
@@ -107,7 +107,7 @@ within : (n : ℕ) (c : ℤ) → negsuc n ≤ℤ c → c ≤ℤ pos n → mag c 
 within n (pos k) l h = omega (arith, leb→le k n (h .le))
 within n (negsuc k) l h = omega (arith, leb→le k n (l .le))
 
-ready-legal : (q : Quantity) (c : ℤ) → Legal (scaleOf q) c → valuesLegal (readyBody q c) ≡ true
+ready-legal : (q : Quantity) (c : ℤ) → LegalCount (scaleOf q) c → valuesLegal (readyBody q c) ≡ true
 ready-legal Azimuth c l = lt-ltb (mag c) 4096 (within 4095 c (l .0) (l .1))
 ready-legal Course c l = lt-ltb (mag c) 4096 (within 4095 c (l .0) (l .1))
 ready-legal Glide c l = lt-ltb (mag c) 4096 (within 4095 c (l .0) (l .1))
@@ -118,7 +118,7 @@ ready-legal MlsGlide c l = lt-ltb (mag c) 32768 (within 32767 c (l .0) (l .1))
 ready-under : (a : Assignment) (q : Quantity) (source : ℕ) (c : ℤ) → wordOf a (readyRecord q source c) ≡ wordAs (labelFor a q) (readyRecord q source c)
 ready-under a q source c = ap (λ (k : Kind). wordAs (a .label k) (readyRecord q source c)) (ready-kind q c)
 
-ready-encoded : (a : Assignment) (q : Quantity) (source : ℕ) (c : ℤ) → source ≤ 3 → Legal (scaleOf q) c
+ready-encoded : (a : Assignment) (q : Quantity) (source : ℕ) (c : ℤ) → source ≤ 3 → LegalCount (scaleOf q) c
     → encodeWith a (readyRecord q source c) ≡ Encoded.Word (wordAs (labelFor a q) (readyRecord q source c))
 ready-encoded a q source c s l =
     all-legal a (readyRecord q source c)
@@ -136,7 +136,7 @@ count-held Glide w c e = let h : _≡_ {A = GlideCount} (record { 0 = countBits 
 count-held MlsAzimuth w c e = let h : _≡_ {A = MlsCount} (record { 0 = countBits MlsAzimuth w }) (record { 0 = c }) = cc in ap (λ (n : MlsCount). n .0) h
 count-held MlsGlide w c e = let h : _≡_ {A = MlsCount} (record { 0 = countBits MlsGlide w }) (record { 0 = c }) = cc in ap (λ (n : MlsCount). n .0) h
 
-module _ (a : Assignment) (q : Quantity) (source : ℕ) (c : ℤ) (s : source ≤ 3) (l : Legal (scaleOf q) c) where
+module _ (a : Assignment) (q : Quantity) (source : ℕ) (c : ℤ) (s : source ≤ 3) (l : LegalCount (scaleOf q) c) where
   abbrev word : ℕ
   word = wordAs (labelFor a q) (readyRecord q source c)
 

@@ -14,7 +14,7 @@ use Rattle.labels.specs.Assignment.{document01}
 use Rattle.encode.specs.Encode.{narrow, wide}
 use Rattle.quantities.specs.Nearest.{millionthsOf}
 use Rattle.quantities.specs.Scale.{scaleOf}
-use Rattle.quantities.specs.Statements.{Legal}
+use Rattle.quantities.specs.Statements.{LegalCount}
 use Rattle.quantities.specs.declared.Quantity.{Quantity}
 use Rattle.figures.specs.Coding.{quantityAt}
 use Rattle.figures.specs.declared.Measured.{Measured}
@@ -58,7 +58,7 @@ within : (n : ℕ) (c : ℤ) → ltb (mag c) (suc n) ≡ true → (negsuc n ≤�
 within n (pos k) e = (leZ-yes tt, leZ-yes (le→leb k n (omega (arith, ltb-true k (suc n) e))))
 within n (negsuc k) e = (leZ-yes (le→leb k n (omega (arith, ltb-true k (suc n) e))), leZ-yes tt)
 
-pub held-legal : (q : Quantity) (c : ℤ) → holds q c ≡ true → Legal (scaleOf q) c
+pub held-legal : (q : Quantity) (c : ℤ) → holds q c ≡ true → LegalCount (scaleOf q) c
 held-legal Quantity.Azimuth c e = within 4095 c e
 held-legal Quantity.Course c e = within 4095 c e
 held-legal Quantity.Glide c e = within 4095 c e

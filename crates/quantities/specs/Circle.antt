@@ -18,7 +18,7 @@ use Rattle.quantities.specs.declared.Nearest.{Nearest}
 use Rattle.quantities.specs.declared.Nearest.the-variants.{Count, OutOfReach}
 use Rattle.quantities.specs.Scale.{Sound, lastCount}
 use Rattle.quantities.specs.Nearest.{roundedCount, turnCounts, wrap, farthest, circleNearest}
-use Rattle.quantities.specs.Statements.{Legal, gap, gapTurned, Shortest, BeyondBy, Closest}
+use Rattle.quantities.specs.Statements.{LegalCount, gap, gapTurned, Shortest, BeyondBy, Closest}
 use Rattle.quantities.specs.Sides.{legal-side, legal-signed, rest-of-turn, gap-sides, counted}
 use Rattle.quantities.specs.Cases.{circle-within, circle-beyond, wrap-same, wrap-other, count-same, refused-not-count}
 
@@ -104,7 +104,7 @@ module _ (s : Scale) (circular : Circular s) where
       )
 
   -- two legal counts that differ by whole turns are one
-  legal-once : (c o t u : ℤ) → Legal s c → Legal s o → moved c t ≡ moved o u → c ≡ o
+  legal-once : (c o t u : ℤ) → LegalCount s c → LegalCount s o → moved c t ≡ moved o u → c ≡ o
   legal-once c o t u lc lo e = go (Laws.separate t u (turnCounts s))
     where
       level : positivePart c + positivePart t * turnCounts s + (negativePart o + negativePart u * turnCounts s) ≡ positivePart o + positivePart u * turnCounts s + (negativePart c + negativePart t * turnCounts s)
@@ -124,10 +124,10 @@ module _ (s : Scale) (circular : Circular s) where
       (arith, h, natAbs-parts c, natAbs-parts (moved c t), moved-parts c t, even-multiple (positivePart t) (turnCounts s) (circular .even), even-multiple (negativePart t) (turnCounts s) (circular .even))
 
   -- a wrapped count is legal, and moved by some whole turns it is the count again
-  wrapped-legal : (b : Bool) (count : ℕ) → Legal s (wrap s b count)
+  wrapped-legal : (b : Bool) (count : ℕ) → LegalCount s (wrap s b count)
   wrapped-legal b count = go (le-or-lt (count % turnCounts s) (lastCount s b))
     where
-      go : (count % turnCounts s ≤ lastCount s b) ⊎ (lastCount s b < count % turnCounts s) → Legal s (wrap s b count)
+      go : (count % turnCounts s ≤ lastCount s b) ⊎ (lastCount s b < count % turnCounts s) → LegalCount s (wrap s b count)
       go (inl h) = rw (wrap-same s b count h) (legal-signed s b (count % turnCounts s) h)
       go (inr h) =
           rw (wrap-other s b count h)
@@ -240,7 +240,7 @@ module _ (s : Scale) (k : Sound s) (circular : Circular s) (figure : ℤ) where
       go (inr h) = (λ _. beyond figure h, λ _. circle-beyond s negative (natAbs figure) h)
 
   -- a legal count that lies less than half a step, and at most half a millionth, away is the coded one
-  pub circle-alone : (c : ℤ) → Legal s c → 2 * gap s figure c < s .numerator → 2 * gap s figure c ≤ s .denominator → answer ≡ Count c
+  pub circle-alone : (c : ℤ) → LegalCount s c → 2 * gap s figure c < s .numerator → 2 * gap s figure c ≤ s .denominator → answer ≡ Count c
   circle-alone c l near fine =
       circle-within s negative (natAbs figure) (half-turn negative size)
       ∙ ap Count

@@ -15,7 +15,7 @@ use Rattle.quantities.specs.declared.Nearest.{Nearest}
 use Rattle.quantities.specs.declared.Nearest.the-variants.{Count, OutOfReach}
 use Rattle.quantities.specs.Scale.{Sound, lastCount}
 use Rattle.quantities.specs.Nearest.{reach, roundedCount, lineNearest}
-use Rattle.quantities.specs.Statements.{Legal, gap, BeyondBy, Closest}
+use Rattle.quantities.specs.Statements.{LegalCount, gap, BeyondBy, Closest}
 use Rattle.quantities.specs.Sides.{side, side-signed, other-side-signed, sides-equal, legal-side, legal-signed, gap-sides, gap-signed, counted}
 use Rattle.quantities.specs.Cases.{line-within, line-beyond, count-same, refused-not-count}
 
@@ -38,7 +38,7 @@ module _ (s : Scale) (k : Sound s) (figure : ℤ) where
       (arith, div-lt-iff-lt-mul {k = 2 * s .denominator} (omega (arith, k .divisor)) .0 h, mul-left-comm (natAbs figure) 2 (s .denominator), add-mul (2 * last) 1 (s .numerator), mul-assoc 2 last (s .numerator), one-mul (s .numerator))
 
   -- past the reach no legal count lies within half a step
-  none-within : reach s negative < natAbs figure → (c : ℤ) → Legal s c → ¬ (2 * gap s figure c ≤ s .numerator)
+  none-within : reach s negative < natAbs figure → (c : ℤ) → LegalCount s c → ¬ (2 * gap s figure c ≤ s .numerator)
   none-within h c l near =
       omega
       (arith, near, beyond-reach h, gap-sides s figure c, mul-le-mul-right (s .numerator) (legal-side s c l negative))
@@ -60,10 +60,10 @@ module _ (s : Scale) (k : Sound s) (figure : ℤ) where
         even = λ other l ne d p q. absurd (ne (same other l (sym q ∙ p)));
       }
     where
-      most : (other : ℤ) → Legal s other → side negative other * s .numerator ≤ last * s .numerator
+      most : (other : ℤ) → LegalCount s other → side negative other * s .numerator ≤ last * s .numerator
       most other l = mul-le-mul-right (s .numerator) (legal-side s other l negative)
 
-      same : (other : ℤ) → Legal s other → gap s figure other ≡ gap s figure (withSign negative last) → other ≡ withSign negative last
+      same : (other : ℤ) → LegalCount s other → gap s figure other ≡ gap s figure (withSign negative last) → other ≡ withSign negative last
       same other l e =
           let here : side negative other ≡ last =
           eq-of-mul-eq-mul-right (s .numerator) (omega (arith, k .longer)) (side negative other) last
@@ -119,7 +119,7 @@ module _ (s : Scale) (k : Sound s) (figure : ℤ) where
       go (inr h) = absurd (refused-not-count (sym (line-beyond s negative (natAbs figure) h) ∙ e))
 
   -- a legal count that lies less than half a step away is the coded one
-  pub line-alone : (c : ℤ) → Legal s c → 2 * gap s figure c < s .numerator → answer ≡ Count c
+  pub line-alone : (c : ℤ) → LegalCount s c → 2 * gap s figure c < s .numerator → answer ≡ Count c
   line-alone c l near = go (le-or-lt (natAbs figure) (reach s negative))
     where
       go : (natAbs figure ≤ reach s negative) ⊎ (reach s negative < natAbs figure) → answer ≡ Count c

@@ -11,7 +11,7 @@ use Rattle.rounding.specs.Laws.{error-parts, rounded-signed}
 use Rattle.quantities.specs.declared.Scale.{Scale}
 use Rattle.quantities.specs.Scale.{Sound, lastCount}
 use Rattle.quantities.specs.Nearest.{roundedCount, turnCounts}
-use Rattle.quantities.specs.Statements.{Legal, gap}
+use Rattle.quantities.specs.Statements.{LegalCount, gap}
 
 -- the size of z where it has this sign, and 0 elsewhere
 abbrev pub side : Bool → ℤ → ℕ
@@ -32,19 +32,19 @@ sides-equal false x y h = parts-equal x y h
 sides-equal true x y h = parts-equal x y (omega arith)
 
 -- the legal counts, by their sides
-pub legal-side : (s : Scale) (c : ℤ) → Legal s c → (b : Bool) → side b c ≤ lastCount s b
+pub legal-side : (s : Scale) (c : ℤ) → LegalCount s c → (b : Bool) → side b c ≤ lastCount s b
 legal-side s c h false = omega (arith, one-part c, le-parts c (pos (s .above)) (h .1))
 legal-side s c h true =
     omega
     (arith, one-part c, le-parts (negℤ (pos (s .below))) c (h .0), positive-neg (pos (s .below)), negative-neg (pos (s .below)))
 
-pub side-legal : (s : Scale) (c : ℤ) → ((b : Bool) → side b c ≤ lastCount s b) → Legal s c
+pub side-legal : (s : Scale) (c : ℤ) → ((b : Bool) → side b c ≤ lastCount s b) → LegalCount s c
 side-legal s c h = (
   parts-le (negℤ (pos (s .below))) c (omega (arith, h true, positive-neg (pos (s .below)), negative-neg (pos (s .below)))),
   parts-le c (pos (s .above)) (omega (arith, h false)),
 )
 
-pub legal-signed : (s : Scale) (b : Bool) (n : ℕ) → n ≤ lastCount s b → Legal s (withSign b n)
+pub legal-signed : (s : Scale) (b : Bool) (n : ℕ) → n ≤ lastCount s b → LegalCount s (withSign b n)
 legal-signed s b n h = side-legal s (withSign b n) (go b h)
   where
     go : (b : Bool) → n ≤ lastCount s b → (a : Bool) → side a (withSign b n) ≤ lastCount s a

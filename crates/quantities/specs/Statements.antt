@@ -12,8 +12,8 @@ use Rattle.quantities.specs.declared.Scale.{Scale}
 use Rattle.quantities.specs.Scale.{scaleOf, onCircle}
 
 -- a count that the quantity's bits hold
-abbrev pub Legal : Scale → ℤ → Type 0
-Legal s c = (negℤ (pos (s .below)) ≤ℤ c) × (c ≤ℤ pos (s .above))
+abbrev pub LegalCount : Scale → ℤ → Type 0
+LegalCount s c = (negℤ (pos (s .below)) ≤ℤ c) × (c ≤ℤ pos (s .above))
 
 -- the distance of a figure in millionths from the value of a count
 abbrev pub gap : Scale → ℤ → ℤ → ℕ
@@ -41,7 +41,7 @@ Away q = AwayBy (onCircle q) (scaleOf q)
 
 -- a figure out of reach: on a line no legal value lies within half a step of it, and an azimuth is below -180, or is 360 or more
 abbrev pub BeyondBy : Bool → Scale → ℤ → Type 0
-BeyondBy false s figure = (c : ℤ) → Legal s c → ¬ (2 * gap s figure c ≤ s .numerator)
+BeyondBy false s figure = (c : ℤ) → LegalCount s c → ¬ (2 * gap s figure c ≤ s .numerator)
 BeyondBy true s figure = (figure <ℤ negℤ (pos 180000000)) ⊎ (pos 360000000 ≤ℤ figure)
 
 -- the same for a quantity
@@ -50,9 +50,9 @@ Beyond q = BeyondBy (onCircle q) (scaleOf q)
 
 -- c is the count that a figure is coded to: no legal count lies nearer, and where another lies equally near, c is the even one
 pub record Closest (circle : Bool) (s : Scale) (figure c : ℤ) : Type 0 where
-  pub legal : Legal s c
-  pub nearest : (other : ℤ) → Legal s other → (d e : ℕ) → AwayBy circle s figure c d → AwayBy circle s figure other e → d ≤ e
-  pub even : (other : ℤ) → Legal s other → other ≢ c → (d : ℕ) → AwayBy circle s figure c d → AwayBy circle s figure other d → Even c
+  pub legal : LegalCount s c
+  pub nearest : (other : ℤ) → LegalCount s other → (d e : ℕ) → AwayBy circle s figure c d → AwayBy circle s figure other e → d ≤ e
+  pub even : (other : ℤ) → LegalCount s other → other ≢ c → (d : ℕ) → AwayBy circle s figure c d → AwayBy circle s figure other d → Even c
 
 -- the same for a quantity
 abbrev pub Coded : Quantity → ℤ → ℤ → Type 0

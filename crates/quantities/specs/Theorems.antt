@@ -16,7 +16,7 @@ use Rattle.quantities.specs.declared.Nearest.{Nearest}
 use Rattle.quantities.specs.declared.Nearest.the-variants.{Count, OutOfReach}
 use Rattle.quantities.specs.Scale.{scaleOf, onCircle, sound}
 use Rattle.quantities.specs.Nearest.{nearestCount, millionthsOf}
-use Rattle.quantities.specs.Statements.{Legal, gap, AwayBy, Away, Beyond, Coded, Printed}
+use Rattle.quantities.specs.Statements.{LegalCount, gap, AwayBy, Away, Beyond, Coded, Printed}
 use Rattle.quantities.specs.Cases.{nearest-circle, nearest-line}
 use Rattle.quantities.specs.Line.{line-refused, line-coded, line-alone}
 use Rattle.quantities.specs.Circle.{Circular, shortest, circle-refused, circle-coded, circle-alone}
@@ -86,9 +86,9 @@ pub printed : (q : Quantity) (c : ℤ) → Printed q c (millionthsOf q c)
 printed q c = record { nearest = Laws.nearest (rounded q c); even = Laws.tie (rounded q c) }
 
 -- and the printed value of a legal count is coded to that count
-pub codes-back : (q : Quantity) (c : ℤ) → Legal (scaleOf q) c → nearestCount q (millionthsOf q c) ≡ Count c
+pub codes-back : (q : Quantity) (c : ℤ) → LegalCount (scaleOf q) c → nearestCount q (millionthsOf q c) ≡ Count c
 codes-back =
-    byShape (λ (q : Quantity). (c : ℤ) → Legal (scaleOf q) c → nearestCount q (millionthsOf q c) ≡ Count c)
+    byShape (λ (q : Quantity). (c : ℤ) → LegalCount (scaleOf q) c → nearestCount q (millionthsOf q c) ≡ Count c)
     (λ c l.
     nearest-circle Azimuth (millionthsOf Azimuth c) refl
     ∙ circle-alone (scaleOf Azimuth) (sound Azimuth) circular (millionthsOf Azimuth c) c l (omega (arith, fine Azimuth c, sound Azimuth .longer)) (fine Azimuth c))
