@@ -11,7 +11,7 @@ use Rattle.readings.specs.Meaning.{HasStatus, HasReading, IsTest, reading-exact
 use Rattle.quantities.specs.Nearest.{millionthsOf}
 use Rattle.figures.specs.Coding.{codedOf}
 use Rattle.figures.specs.Demand.{Demand3, Order}
-use Rattle.demands.specs.Inputs.{Demand1, demand1}
+use Rattle.demands.specs.EntryPoints.{Demand1, demand1}
 use Rattle.demands.specs.Table.{table, labels}
 use Rattle.demands.specs.Words.{Demand2, demand2}
 use Rattle.demands.specs.Figures.{CodedWord, demand3, coded-word, refusal-order}

@@ -1,5 +1,6 @@
 pub mod Demands
-pub mod Inputs
+pub mod EntryRules
+pub mod EntryPoints
 pub mod Table
 pub mod Holds
 pub mod Allowed
@@ -8,8 +9,15 @@ pub mod Legal
 pub mod Words
 pub mod Figures
 pub mod Starred
+pub mod Sheet
+pub mod Writer
+pub mod Notes
+pub mod Reader
+pub mod Listing
 pub mod HoldsLemmas
 pub mod TableLemmas
 pub mod Tests
 pub mod Judgement
 pub mod Writing
+pub mod Chained
+pub mod EntryRulesLemmas

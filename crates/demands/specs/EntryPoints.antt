@@ -1,0 +1,119 @@
+-- Demand 1: "Every entry point takes whatever number, word or sheet comes and ends. Bad input gets the refusal number of document 01, no record, and no byte written in a buffer we lent."
+-- That each ends and asks for nothing is what the checker proves of every function: none of them has a `requires`. Stated here is which refusal each gives, by the definitions that stand in
+-- their contracts: it is refused with f (at p) exactly when f is what the first broken rule of its list gives, and gives its answer exactly when none is broken. No answer does both.
+-- Words are 32-bit numbers, and the bytes of a sheet are below 256.
+-- Assumes nothing.
+use mathlib.Core.Path.{_≡_, refl, ap}
+use mathlib.Core.Bool.{Bool, true, false, cond}
+use mathlib.Core.List.{List, _++_}
+use Prim.Native.Nat.{ℕ, _^_, _<_}
+use native.Mathlib.Omega.{arith}
+use lib.Dec.{ltb}
+use lib.IntN.{ℤ}
+use lib.ListN.{length, drop}
+use Rattle.refusals.specs.Order.{Follows}
+use Rattle.refusals.specs.declared.Refusal.{Refusal}
+use Rattle.records.specs.declared.Record.{Record}
+use Rattle.labels.specs.Assignment.{document01}
+use Rattle.decode.specs.Decode.{decodeOf}
+use Rattle.encode.specs.Encode.{encodeOf}
+use Rattle.chart.specs.Chart.{chartOf}
+use Rattle.chart.specs.Points.{charted, chart-order}
+use Rattle.chart.specs.Points as points
+use Rattle.chart.specs.Words.{chartPoint, word-order}
+use Rattle.chart.specs.Words as chart-words
+use Rattle.figures.specs.Coding.{codedOf}
+use Rattle.reassembly.specs.Parts.{partIn}
+use Rattle.reassembly.specs.Step.{takeWord}
+use Rattle.reassembly.specs.declared.Reassembler.{Reassembler}
+use Rattle.contents.specs.Contents.{wordIn, figureIn}
+use Rattle.fields.specs.declared.FieldKind.{FieldKind}
+use Rattle.fields.specs.Grammar.{Bytes}
+use Rattle.fields.specs.Rules.{fieldRules, sheetRules, insideRules}
+use Rattle.fields.specs.RulesLemmas.{started, start-follows}
+use Rattle.fields.specs.Run.{sheetOf, insideOf}
+use Rattle.fields.specs.Start.{startOf}
+use Rattle.sheet.specs.Checked.{checkedOf}
+use Rattle.walk.specs.Step.{startWalk, stepOf}
+use Rattle.walk.specs.Walked.{after}
+use Rattle.notes.specs.Note.{noteOf}
+use Rattle.totals.specs.Totals.{totalsOf}
+use Rattle.writer.specs.Buffer.{unchanged, group-unchanged}
+use Rattle.writer.specs.Write.{writeOf, groupOf}
+use Rattle.writer.specs.declared.Written.{Written}
+use Rattle.listing.specs.Listing.{textOf, listedOf, bufferOf}
+use Rattle.listing.specs.declared.Listed.{Listed}
+use Rattle.demands.specs.Order.{wordRules}
+use Rattle.demands.specs.Judgement.{decoded}
+use Rattle.demands.specs.Judgement as judgement
+use Rattle.demands.specs.EntryRules.{recordRules, figureRules, partRules, takeRules, contentRules, noteRules, writeRules, groupRules, roomRules, encoded, parts, taken, words, figures, checked, walked, noted, counted, written, listed}
+use Rattle.demands.specs.EntryRulesLemmas.{record-follows, figure-follows, part-follows, take-follows, word-in-follows, figure-in-follows, checked-follows, inside-follows, walk-follows, note-follows, totals-follow, write-follows, group-follows, listed-follows}
+
+-- "Bad input gets the refusal number of document 01, no record, and no byte written in a buffer we lent."
+pub record Demand1 : Type 0 where
+  -- a word to its record: `decode`
+  pub word : (w : ℕ) → w < 2 ^ 32 → Follows decoded (wordRules document01 w) (decodeOf w)
+  -- a record to its word: `encode`
+  pub «record» : (r : Record) → Follows encoded (recordRules r) (encodeOf r)
+  -- a figure to its word: `code_figure`
+  pub figure : (label source : ℕ) (millionths : ℤ) → Follows encoded (figureRules label source millionths) (codedOf label source millionths)
+  -- two words, or two records, to a chart point: `chart_point`, `chart_of`
+  pub chart : (course glide : ℕ) → Follows charted (chart-words.wordRules course glide) (chartPoint course glide)
+  pub chart-records : (course glide : Record) → Follows charted (points.recordRules course glide) (chartOf course glide)
+  -- a word to the part that it carries, and to the reassembly: `part_in`, `Reassembler::take`
+  pub part : (w : ℕ) → w < 2 ^ 32 → Follows parts (partRules w) (partIn w)
+  pub take : (held : Reassembler) (w : ℕ) → w < 2 ^ 32 → Follows taken (takeRules held w) (takeWord held w .answer)
+  -- the contents of a word field and of a figure field: `word_in`, `figure_in`
+  pub word-content : (c : List ℕ) → Follows words (contentRules 4 c) (wordIn c)
+  pub figure-content : (c : List ℕ) → Follows figures (contentRules 9 c) (figureIn c)
+  -- a sheet and the inside of a group: `check_sheet`, `check_inside`; one field, where bytes are left: `start_at`
+  pub sheet : (s : List ℕ) → Bytes s → Follows checked (sheetRules s) (checkedOf (sheetOf s))
+  pub inside : (run : List ℕ) → Bytes run → Follows checked (insideRules run) (checkedOf (insideOf run))
+  pub field : (depth : ℕ) (bs : List ℕ) → 0 < length bs → Follows started (fieldRules depth bs) (startOf depth bs)
+  -- each answer of a walk from its start: `step` after `start`, `reader::next` after `reader::new`, `field_at`
+  pub walk : (s : List ℕ) → Bytes s → (n : ℕ) → Follows walked (sheetRules s) (stepOf s (after n s (startWalk s)) .given)
+  -- a note and the totals: `find_note`, `note_text`, `totals_of`
+  pub note : (s : List ℕ) → Bytes s → (place : ℕ) → Follows noted (noteRules s place) (noteOf (sheetOf s) place)
+  pub totals : (s : List ℕ) → Bytes s → Follows counted (sheetRules s) (totalsOf (sheetOf s))
+  -- one field into a buffer: `write_word`, `write_figure`, `write_note`
+  pub write : (out : List ℕ) (place : ℕ) (k : FieldKind) (c : List ℕ) → Follows written (writeRules (length out) place (length c)) (writeOf out place k c .answer)
+  pub write-untouched : (out : List ℕ) (place : ℕ) (k : FieldKind) (c : List ℕ) (f : Refusal) (p : ℕ) → writeOf out place k c .answer ≡ Written.Refused f p → writeOf out place k c .buffer ≡ out
+  -- a group into a buffer: `write_group`
+  pub group : (out : List ℕ) (place : ℕ) (run : List ℕ) → Bytes run → Follows written (groupRules (length out) place run) (groupOf out place run .answer)
+  pub group-untouched : (out : List ℕ) (place : ℕ) (run : List ℕ) (f : Refusal) (p : ℕ) → groupOf out place run .answer ≡ Written.Refused f p → groupOf out place run .buffer ≡ out
+  -- the listing of a sheet into a buffer: `list_sheet`
+  pub list : (s out : List ℕ) → Follows listed (roomRules (length out) (length (textOf s))) (listedOf (textOf s) out)
+  pub list-untouched : (s out : List ℕ) (f : Refusal) → listedOf (textOf s) out ≡ Listed.Refused f → bufferOf (textOf s) out ≡ out
+
+listed-unchanged : (text out : List ℕ) (f : Refusal) → listedOf text out ≡ Listed.Refused f → bufferOf text out ≡ out
+listed-unchanged text out f = by (ltb (length out) (length text))
+  where
+    by : (b : Bool) → cond b (Listed.Refused Refusal.Room) (Listed.Length (length text)) ≡ Listed.Refused f → cond b out (text ++ drop (length text) out) ≡ out
+    by true e = refl
+    by false e = let z : _≡_ {A = ℕ} 0 1 = cc in absurd (omega arith)
+
+-- Demand 1 holds.
+pub demand1 : Demand1
+demand1 = record {
+  word = judgement.word-order document01;
+  «record» = record-follows;
+  figure = figure-follows;
+  chart = word-order;
+  chart-records = chart-order;
+  part = part-follows;
+  take = take-follows;
+  word-content = word-in-follows;
+  figure-content = figure-in-follows;
+  sheet = checked-follows;
+  inside = inside-follows;
+  field = start-follows;
+  walk = walk-follows;
+  note = note-follows;
+  totals = totals-follow;
+  write = λ out place k c. write-follows (length out) place (length c);
+  write-untouched = unchanged;
+  group = group-follows;
+  group-untouched = group-unchanged;
+  list = λ s out. listed-follows (textOf s) out;
+  list-untouched = λ s out. listed-unchanged (textOf s) out;
+}
