@@ -25,9 +25,10 @@ check:
 	rt check
 	@$(MAKE) --no-print-directory test-model test-c test-rust test-programs test-install
 
-# The programs that are installed: target/bin/list.
+# The programs that are installed: target/bin/list and target/bin/list_fields.
 programs:
 	rt check list
+	rt check list_fields
 
 # The static library that include/lampcygnet.h describes: target/staticlib/libcapi.a.
 library:
@@ -54,28 +55,31 @@ exhaustive: library
 bench: library
 	cd bench && cargo test --offline --quiet && cargo run --offline --release
 
-# Puts the listing program, the header, the library, its pkg-config file and the manual pages below PREFIX, or below DESTDIR for a package of them.
+# Puts the programs, the header, the library, its pkg-config file and the manual pages below PREFIX, or below DESTDIR for a package of them.
 install: programs library
 	@$(MAKE) --no-print-directory install-files
 
 # The same of what is built already.
 install-files:
 	install -d "$(DESTDIR)$(PREFIX)/bin" "$(DESTDIR)$(PREFIX)/include" "$(DESTDIR)$(PREFIX)/lib/pkgconfig" \
-		"$(DESTDIR)$(PREFIX)/share/man/man1" "$(DESTDIR)$(PREFIX)/share/man/man3"
+		"$(DESTDIR)$(PREFIX)/share/man/man1" "$(DESTDIR)$(PREFIX)/share/man/man3" "$(DESTDIR)$(PREFIX)/share/man/man5"
 	install -m 755 target/bin/list "$(DESTDIR)$(PREFIX)/bin/lampcygnet-list"
+	install -m 755 target/bin/list_fields "$(DESTDIR)$(PREFIX)/bin/lampcygnet-fields"
 	install -m 644 include/lampcygnet.h "$(DESTDIR)$(PREFIX)/include/lampcygnet.h"
 	install -m 644 target/staticlib/libcapi.a "$(DESTDIR)$(PREFIX)/lib/liblampcygnet.a"
 	$(call filled,lampcygnet.pc.in,lib/pkgconfig/lampcygnet.pc)
 	$(call filled,man/lampcygnet-list.1,share/man/man1/lampcygnet-list.1)
+	$(call filled,man/lampcygnet-fields.1,share/man/man1/lampcygnet-fields.1)
 	$(call filled,man/lampcygnet.3,share/man/man3/lampcygnet.3)
+	$(call filled,man/lampcygnet-sheet.5,share/man/man5/lampcygnet-sheet.5)
 
 # A file with its prefix and version filled in.
 filled = sed -e 's|@PREFIX@|$(PREFIX)|' -e 's|@VERSION@|$(VERSION)|' $(1) > "$(DESTDIR)$(PREFIX)/$(2)" && chmod 644 "$(DESTDIR)$(PREFIX)/$(2)"
 
 # Takes away the files that `install` puts there.
 uninstall:
-	for file in bin/lampcygnet-list include/lampcygnet.h lib/liblampcygnet.a lib/pkgconfig/lampcygnet.pc \
-		share/man/man1/lampcygnet-list.1 share/man/man3/lampcygnet.3; do rm -f "$(DESTDIR)$(PREFIX)/$$file"; done
+	for file in bin/lampcygnet-list bin/lampcygnet-fields include/lampcygnet.h lib/liblampcygnet.a lib/pkgconfig/lampcygnet.pc \
+		share/man/man1/lampcygnet-list.1 share/man/man1/lampcygnet-fields.1 share/man/man3/lampcygnet.3 share/man/man5/lampcygnet-sheet.5; do rm -f "$(DESTDIR)$(PREFIX)/$$file"; done
 
 # The programs where an input cannot be read, an output cannot be written, an argument is given or a sheet is too long.
 test-programs: programs

@@ -6,6 +6,7 @@
 //! Other code is compared with the model through [`compare::Subject`].
 
 pub mod compare;
+pub mod fields;
 pub mod figure;
 pub mod generate;
 pub mod listing;
@@ -14,6 +15,7 @@ pub mod reassembly;
 pub mod sheet;
 pub mod word;
 
+pub use fields::list_fields;
 pub use figure::{agrees, code, print_millionths, print_text};
 pub use listing::list;
 pub use reassembly::{Answer, Partial};

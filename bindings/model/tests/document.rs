@@ -218,3 +218,17 @@ fn notes_and_writing() {
     assert_eq!(write(&mut large, 32_762, &Content::Word(1)), Err((15, None)));
     assert_eq!(write(&mut large, 0, &Content::Note(&vec![1; 70_000])), Err((15, None)));
 }
+
+#[test]
+fn lines_of_fields() {
+    let sheet = [
+        &[0x10, 0, 4, 0xE8, 0, 0, 0x49][..],
+        &[0x11, 0, 9, 0x7B, 0, 0, 0, 0, 0, 0x0F, 0x42, 0x40],
+        &[0x12, 0, 5, b'h', b'e', b'l', b'l', b'o'],
+        &[0x20, 0, 14, 0x12, 0, 4, b'a', b'\\', 10, 255, 0x10, 0, 4, 0xE8, 0, 0, 0x48],
+    ]
+    .concat();
+    let lines = "0 1 10 4 E8000049\n7 1 11 9 173 1.000000\n19 1 12 5 hello\n27 1 20 14\n30 2 12 4 a\\x5C\\x0A\\xFF\n37 2 10 4 E8000048\n";
+    assert_eq!(model::list_fields(&sheet), lines);
+    assert_eq!(model::list_fields(&sheet[..sheet.len() - 1]), "sheet refused 9 at 27\n");
+}

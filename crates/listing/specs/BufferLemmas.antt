@@ -11,26 +11,30 @@ use lib.Dec.{ltb}
 use lib.ListN.{length, drop}
 use lib.Seq.{sets-eq}
 use Rattle.refusals.specs.declared.Refusal.{Refusal}
-use Rattle.text.specs.Writing.{Writes, exact}
+use Rattle.text.specs.Writing.{last, Writes, exact}
 use Rattle.listing.specs.declared.Listed.{Listed}
 use Rattle.listing.specs.Listing.{textOf, listedOf, bufferOf}
 use Rattle.listing.specs.Size.{longest, text-short}
 
--- no text is longer than this
+-- no listing is longer than this
+pub text-counted : (s : List ℕ) → length (textOf s) ≤ last
+text-counted s = omega (arith, text-short s)
+
 pub never-longer : (s : List ℕ) (room : ℕ) → longest ≤ room → false ≡ ltb room (length (textOf s))
 never-longer s room h = sym (le-ltb room (length (textOf s)) (omega (arith, text-short s)))
 
-module _ (s out out' : List ℕ) (n : ℕ) (w : Writes out 0 (textOf s) out' n) where
+-- Any text that a buffer could hold.
+module _ (t out out' : List ℕ) (n : ℕ) (short : length t ≤ last) (w : Writes out 0 t out' n) where
   -- the length of the text, however little of it was stored
-  pub length-counted : n ≡ length (textOf s)
-  length-counted = exact w (omega (arith, text-short s)) ∙ omega arith
+  pub length-counted : n ≡ length t
+  length-counted = exact w (omega (arith, short)) ∙ omega arith
 
   -- the text fits
-  pub stored : ltb (length out) (length (textOf s)) ≡ false → (Listed.Length n ≡ listedOf (textOf s) out) × (out' ≡ bufferOf (textOf s) out)
-  stored t =
-      let fits : length (textOf s) ≤ length out = ltb-false (length out) (length (textOf s)) t in
-      (rw t (ap Listed.Length length-counted), rw t (w .stored ∙ sets-eq (textOf s) out 0 (omega arith) ∙ ap (λ (k : ℕ). textOf s ++ drop k out) (zero-add (length (textOf s)))))
+  pub stored : ltb (length out) (length t) ≡ false → (Listed.Length n ≡ listedOf t out) × (out' ≡ bufferOf t out)
+  stored e =
+      let fits : length t ≤ length out = ltb-false (length out) (length t) e in
+      (rw e (ap Listed.Length length-counted), rw e (w .stored ∙ sets-eq t out 0 (omega arith) ∙ ap (λ (k : ℕ). t ++ drop k out) (zero-add (length t))))
 
 -- the text is too long for the buffer
-pub no-room : (s out : List ℕ) → ltb (length out) (length (textOf s)) ≡ true → (Listed.Refused Refusal.Room ≡ listedOf (textOf s) out) × (out ≡ bufferOf (textOf s) out)
-no-room s out t = (rw t, rw t)
+pub no-room : (t out : List ℕ) → ltb (length out) (length t) ≡ true → (Listed.Refused Refusal.Room ≡ listedOf t out) × (out ≡ bufferOf t out)
+no-room t out e = (rw e, rw e)

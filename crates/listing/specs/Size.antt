@@ -89,6 +89,23 @@ unfolding scan
 scan-owned zero d p bs = zero-le
 scan-owned (suc k) d p bs = step-owned (scan k) (scan-owned k) d p bs (startOf d bs) refl
 
+-- so the fields of a sheet own no more bytes than a sheet may have
+pub fields-owned : (s : List ℕ) (fs : List Field) → sheetOf s ≡ Fields fs → owned fs ≤ 32768
+fields-owned s fs e = at (ltb 32768 (length s)) refl
+  where
+    at : (b : Bool) → ltb 32768 (length s) ≡ b → owned fs ≤ 32768
+    at true l = let clash : Refused Refusal.Oversize 0 ≡ Fields fs = sym (longer s (ltb-true 32768 (length s) l)) ∙ e in let z : _≡_ {A = ℕ} 0 1 = cc in absurd (omega arith)
+    at false l =
+        let few : length s ≤ 32768 = ltb-false 32768 (length s) l in
+        let run : runOf 1 0 s ≡ Fields fs = sym (not-longer s few) ∙ e in
+        let mine : ownedIn (runOf 1 0 s) ≤ length s = scan-owned (length s) 1 0 s in
+        let same : ownedIn (runOf 1 0 s) ≡ owned fs = ap ownedIn run in
+        omega arith
+
+-- the refusal of a sheet is one line, with an offset below 2^64
+pub refusal-short : (s : List ℕ) (f : Refusal) (p : ℕ) → sheetOf s ≡ Refused f p → p < 2 ^ 64
+refusal-short s f p e = ⊎-elim (λ a. omega (arith, a .2)) (λ b. omega (arith, b .0, b .1 .offset .1)) (sheet-refusal s f p e)
+
 -- ---- a line for each field that has one
 
 word-short : (c : List ℕ) → 7 * length (lineOfWord (wordIn c)) ≤ 25 * (3 + length c)
@@ -141,24 +158,11 @@ longest = 117085
 pub text-short : (s : List ℕ) → length (textOf s) ≤ longest
 text-short s = by (sheetOf s) refl
   where
-    fields-owned : (fs : List Field) → sheetOf s ≡ Fields fs → owned fs ≤ 32768
-    fields-owned fs e = at (ltb 32768 (length s)) refl
-      where
-        at : (b : Bool) → ltb 32768 (length s) ≡ b → owned fs ≤ 32768
-        at true l = let clash : Refused Refusal.Oversize 0 ≡ Fields fs = sym (longer s (ltb-true 32768 (length s) l)) ∙ e in let z : _≡_ {A = ℕ} 0 1 = cc in absurd (omega arith)
-        at false l =
-            let few : length s ≤ 32768 = ltb-false 32768 (length s) l in
-            let run : runOf 1 0 s ≡ Fields fs = sym (not-longer s few) ∙ e in
-            let mine : ownedIn (runOf 1 0 s) ≤ length s = scan-owned (length s) 1 0 s in
-            let same : ownedIn (runOf 1 0 s) ≡ owned fs = ap ownedIn run in
-            omega arith
-
     by : (r : Scan) → sheetOf s ≡ r → length (listingOf r) ≤ longest
     by (Refused f p) e =
-        let small : p < 2 ^ 64 = ⊎-elim (λ a. omega (arith, a .2)) (λ b. omega (arith, b .0, b .1 .offset .1)) (sheet-refusal s f p e) in
-        omega (arith, refusal-line-length f p small)
+        omega (arith, refusal-line-length f p (refusal-short s f p e))
     by (Fields fs) e =
-        let mine : owned fs ≤ 32768 = fields-owned fs e in
+        let mine : owned fs ≤ 32768 = fields-owned s fs e in
         let words : wordsIn fs ≤ owned fs = words-few fs in
         let refused : refusedWordsIn fs ≤ wordsIn fs = refused-few fs in
         let last : length (totalLine (wordsIn fs) (refusedWordsIn fs)) ≤ 56 = total-line-length (wordsIn fs) (refusedWordsIn fs) (omega arith) (omega arith) in

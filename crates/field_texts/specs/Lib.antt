@@ -1,0 +1,2 @@
+-- The content of a field as text. Assumes nothing.
+pub mod FieldTexts

@@ -1,0 +1,31 @@
+-- The buffer has room for every text (specs/Whole.antt), so the answer is never a refusal.
+-- Assumes nothing.
+use Rattle.list_fields.specs.Whole.{never-refused, whole}
+use borrow.Author.Needs.{needs}
+use Rattle.list_fields.proofs.list_whole.Statement.{statement}
+use Rattle.list_fields.proofs.list_whole.Tie as tie
+
+list-fields-requires : tie.Need-list-fields-requires
+list-fields-requires c κs = search needs
+
+enum-known-length : tie.Need-enum-known-length
+enum-known-length c = search needs
+
+enum-told : tie.Need-enum-told
+enum-told c = search needs
+
+returns : tie.Need-returns
+returns c =
+    let given = c .before .before .before .before .before .before in
+    let listed = c .before .before .before .list-fields in
+    whole (given .args .sheet .now) (given .args .text .now) (search needs) (listed .result) (listed .ensures .0) _ (listed .ensures .1) _ (c .before .length .given .1)
+
+returns-2 : tie.Need-returns-2
+returns-2 c =
+    let given = c .before .before .before .before .before in
+    let listed = c .before .before .list-fields in
+    absurd (never-refused (given .args .sheet .now) (given .args .text .now) (search needs) (listed .result) (listed .ensures .0) _ (c .enum-told .given .1))
+
+pub list-whole-spec : {M : Type 1} → statement M
+list-whole-spec =
+    tie.close (tie.spec list-fields-requires enum-known-length enum-told returns returns-2)
