@@ -43,9 +43,8 @@ use Rattle.writer.specs.Write.{writeOf, groupOf}
 use Rattle.writer.specs.declared.Written.{Written}
 use Rattle.listing.specs.Listing.{textOf, listedOf, bufferOf}
 use Rattle.listing.specs.declared.Listed.{Listed}
-use Rattle.demands.specs.Order.{wordRules}
-use Rattle.demands.specs.Judgement.{decoded}
-use Rattle.demands.specs.Judgement as judgement
+use Rattle.demands.specs.Order.{wordRules, decoded}
+use Rattle.demands.specs.JudgementLemmas as judgement
 use Rattle.demands.specs.EntryRules.{recordRules, figureRules, partRules, takeRules, contentRules, noteRules, writeRules, groupRules, roomRules, encoded, parts, taken, words, figures, checked, walked, noted, counted, written, listed}
 use Rattle.demands.specs.EntryRulesLemmas.{record-follows, figure-follows, part-follows, take-follows, word-in-follows, figure-in-follows, checked-follows, inside-follows, walk-follows, note-follows, totals-follow, write-follows, group-follows, listed-follows}
 

@@ -38,7 +38,7 @@ use Rattle.totals.specs.declared.Counted.{Counted}
 use Rattle.totals.specs.declared.Totals.{Totals}
 use Rattle.writer.specs.declared.Written.{Written}
 use Rattle.listing.specs.declared.Listed.{Listed}
-use Rattle.demands.specs.Chained.{Says, refuses, gives, saying}
+use Rattle.demands.specs.Answers.{Says, refuses, gives, saying}
 use Rattle.demands.specs.Legal.{LegalCodes, LegalValues}
 
 -- ---- the rules

@@ -25,7 +25,7 @@ use Rattle.quantities.specs.Statements.{Beyond}
 use Rattle.quantities.specs.Theorems as quantities
 use Rattle.quantities.specs.declared.Nearest.{Nearest}
 use Rattle.quantities.specs.declared.Quantity.{Quantity}
-use Rattle.figures.specs.Coding.{labelFor, quantityAt, codedNearest, codedQuantity, codedMeasured, codedOf}
+use Rattle.figures.specs.Coding.{labelFor, quantityAt, codedNearest, codedUnder, codedMeasured, codedOf}
 use Rattle.figures.specs.Words.{quantity-of-label, unmeasured}
 use Rattle.figures.specs.declared.Measured.{Measured}
 use Rattle.reassembly_parts.specs.Sequence.{InSequence, sequence, in-sequence}
@@ -62,11 +62,11 @@ use Rattle.writer.specs.Write.{Write, answerOf as writeAnswer, writeOf, unlessR
 use Rattle.writer.specs.declared.Written.{Written}
 use Rattle.listing.specs.Listing.{listedOf}
 use Rattle.listing.specs.declared.Listed.{Listed}
-use Rattle.demands.specs.Chained.{Says, refuses, gives, chained}
+use Rattle.demands.specs.ChainedLemmas.{chained}
 use Rattle.demands.specs.Legal.{LegalCodes, LegalValues}
-use Rattle.demands.specs.Tests.{odd-test}
-use Rattle.demands.specs.Writing.{legal-codes-test, values-test}
-use Rattle.demands.specs.EntryRules.{recordRules, reachRule, figureRules, partRules, takeRules, contentRules, NoteAt, noteRules, writeRules, groupRules, roomRules, encoded, parts, taken, sayTaken, words, figures, checked, Next, sayGiven, walked, noted, counted, written, listed}
+use Rattle.demands.specs.TestsLemmas.{odd-test}
+use Rattle.demands.specs.WritingLemmas.{legal-codes-test, values-test}
+use Rattle.demands.specs.EntryRules.{recordRules, reachRule, figureRules, partRules, takeRules, contentRules, NoteAt, noteRules, writeRules, groupRules, roomRules, encoded, parts, taken, words, figures, checked, walked, noted, counted, written, listed}
 
 -- ---- records and figures
 
@@ -87,9 +87,9 @@ module _ (label source : ℕ) (figure : ℤ) where
       let both : Measured.As p ≡ Measured.As q = sym (quantity-of-label document01 p) ∙ ap (quantityAt document01) (sym e ∙ f) ∙ quantity-of-label document01 q in
       cc
 
-  reach-follows : (q : Quantity) → label ≡ labelFor document01 q → (n : Nearest) → nearestCount q figure ≡ n → Follows encoded (reachRule label figure ∷ []) (codedNearest document01 q source n)
+  reach-follows : (q : Quantity) → label ≡ labelFor document01 q → (n : Nearest) → nearestCount q figure ≡ n → Follows encoded (reachRule label figure ∷ []) (codedNearest q label source n)
   reach-follows q own (Nearest.Count c) e =
-      let w : Encoded = codedNearest document01 q source (Nearest.Count c) in
+      let w : Encoded = codedNearest q label source (Nearest.Count c) in
       let within : (p : Quantity) → label ≡ labelFor document01 p → Beyond p figure → ⊥ = λ p f b.
       let out : Nearest.Count c ≡ Nearest.OutOfReach = sym e ∙ quantities.refused q figure .1 (subst (λ (x : Quantity). Beyond x figure) (one-quantity p q f own) b) in
       let z : _≡_ {A = ℕ} 0 1 = cc in omega arith in
@@ -98,7 +98,7 @@ module _ (label source : ℕ) (figure : ℤ) where
       let far : Beyond q figure = quantities.refused q figure .0 e in
       broken-first encoded (reachRule label figure) [] Refusal.Reach (λ k. k q own far) (q, own, far, refl) (λ g b. b .3)
 
-  measured-follows : (q : Quantity) → label ≡ labelFor document01 q → Follows encoded (asks (source ≤ 3) Refusal.Code ∷ reachRule label figure ∷ []) (codedQuantity document01 q source figure)
+  measured-follows : (q : Quantity) → label ≡ labelFor document01 q → Follows encoded (asks (source ≤ 3) Refusal.Code ∷ reachRule label figure ∷ []) (codedUnder q label source figure)
   measured-follows q own =
       let few = at-most source 3 in
       tested encoded (leb source 3) (source ≤ 3) Refusal.Code _ _ (few .0) (few .1) (λ s. reach-follows q own (nearestCount q figure) refl)
@@ -128,9 +128,9 @@ module _ (label source : ℕ) (figure : ℤ) where
   pub figure-follows : Follows encoded (figureRules label source figure) (codedOf label source figure)
   figure-follows = elim five [
     | inl (q, own) ↦ kept-one encoded ((p : Quantity) × (label ≡ labelFor document01 p)) Refusal.Label _ _ (q, own)
-        (subst⁻¹ (λ (m : Measured). Follows encoded (asks (source ≤ 3) Refusal.Code ∷ reachRule label figure ∷ []) (codedMeasured document01 m source figure))
+        (subst⁻¹ (λ (m : Measured). Follows encoded (asks (source ≤ 3) Refusal.Code ∷ reachRule label figure ∷ []) (codedMeasured m label source figure))
         (ap (quantityAt document01) own ∙ quantity-of-label document01 q) (measured-follows q own))
-    | inr none ↦ subst⁻¹ (λ (m : Measured). Follows encoded (figureRules label source figure) (codedMeasured document01 m source figure)) (unmeasured document01 label none)
+    | inr none ↦ subst⁻¹ (λ (m : Measured). Follows encoded (figureRules label source figure) (codedMeasured m label source figure)) (unmeasured document01 label none)
         (broken-one encoded ((p : Quantity) × (label ≡ labelFor document01 p)) Refusal.Label _ (λ s. none (s .0) (s .1)))
   ]
 

@@ -4,6 +4,7 @@ pub mod EntryPoints
 pub mod Table
 pub mod Holds
 pub mod Allowed
+pub mod Answers
 pub mod Order
 pub mod Legal
 pub mod Words
@@ -16,8 +17,8 @@ pub mod Reader
 pub mod Listing
 pub mod HoldsLemmas
 pub mod TableLemmas
-pub mod Tests
-pub mod Judgement
-pub mod Writing
-pub mod Chained
+pub mod TestsLemmas
+pub mod JudgementLemmas
+pub mod WritingLemmas
+pub mod ChainedLemmas
 pub mod EntryRulesLemmas

@@ -30,9 +30,9 @@ use Rattle.demands.specs.HoldsLemmas.{holds, only, label-bits, source-bi
 use Rattle.demands.specs.Allowed.{Allowed}
 use Rattle.demands.specs.Order.{wordRules}
 use Rattle.demands.specs.Legal.{LegalCodes, LegalValues, Legal}
-use Rattle.demands.specs.Tests.{tested}
-use Rattle.demands.specs.Judgement.{word-order, allowed}
-use Rattle.demands.specs.Writing.{legal-codes-test, values-test}
+use Rattle.demands.specs.TestsLemmas.{tested}
+use Rattle.demands.specs.JudgementLemmas.{word-order, allowed}
+use Rattle.demands.specs.WritingLemmas.{legal-codes-test, values-test}
 
 pub record Demand2 (a : Assignment) : Type 0 where
   -- "A word is accepted exactly when the layouts in document 01 .. allow it."

@@ -13,7 +13,7 @@ use Rattle.records.specs.Layouts.{wordLayout}
 use Rattle.records.specs.declared.Kind.{Kind}
 use Rattle.records.specs.declared.Record.{Record}
 use Rattle.refusals.specs.Order as order
-use Rattle.refusals.specs.Order.{Rule, Answers, Follows, AllKept, no-rules, kept-one, broken-one, tested}
+use Rattle.refusals.specs.Order.{Rule, Follows, AllKept, no-rules, kept-one, broken-one, tested}
 use Rattle.refusals.specs.declared.Refusal.{Refusal}
 use Rattle.labels.specs.Label.{labelOf}
 use Rattle.labels.specs.Assignment.{Assignment}
@@ -25,24 +25,9 @@ use Rattle.decode.specs.declared.Judgement.{Judgement}
 use Rattle.demands.specs.Table.{ZeroBits}
 use Rattle.demands.specs.TableLemmas.{zero-bits}
 use Rattle.demands.specs.Allowed.{Asks, asks, Allowed}
-use Rattle.demands.specs.Order.{OfItsKind, fieldRules, wordRules}
-use Rattle.demands.specs.Tests as tests
-use Rattle.demands.specs.Tests.{odd-test}
-
-pub never : (r : Record) (f : Refusal) → Decoded.Refused f ≡ Decoded.Accepted r → ⊥
-never r f e = let z : _≡_ {A = ℕ} 0 1 = cc in omega arith
-
-pub one-refusal : (f g : Refusal) → Decoded.Refused f ≡ Decoded.Refused g → f ≡ g
-one-refusal f g e = cc
-
--- a word is refused, or has a record
-abbrev pub decoded : Answers Refusal Decoded
-decoded = record {
-  refuse = Decoded.Refused;
-  accepts = λ d. (r : Record) × (d ≡ Decoded.Accepted r);
-  apart = λ f h. never (h .0) f (h .1);
-  once = one-refusal;
-}
+use Rattle.demands.specs.Order.{OfItsKind, fieldRules, wordRules, decoded}
+use Rattle.demands.specs.TestsLemmas as tests
+use Rattle.demands.specs.TestsLemmas.{odd-test}
 
 -- the judgement of a tested rule
 judged-test : (b : Bool) (v : Judgement) (f : Refusal) (r : Record) → judged (cond b v (Judgement.Broken f)) r ≡ cond b (judged v r) (Decoded.Refused f)

@@ -16,7 +16,7 @@ use Rattle.codes.specs.declared.Status.{Status}
 use Rattle.codes.specs.declared.Status.the-variants.{Failure, NoData, Test, Ready}
 use Rattle.encode.specs.Encode.{codesListed, valuesLegal}
 use Rattle.demands.specs.Legal.{CodesOf, ValuesOf, Vhf, LegalCodes}
-use Rattle.demands.specs.Tests.{always, both-test, at-most-test, mls-value}
+use Rattle.demands.specs.TestsLemmas.{always, both-test, at-most-test, mls-value}
 
 abbrev isFailure : Status → ℕ
 isFailure Failure = 1
