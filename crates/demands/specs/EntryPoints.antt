@@ -33,7 +33,7 @@ use Rattle.fields.specs.Rules.{fieldRules, sheetRules, insideRules}
 use Rattle.fields.specs.RulesLemmas.{started, start-follows}
 use Rattle.fields.specs.Run.{sheetOf, insideOf}
 use Rattle.fields.specs.Start.{startOf}
-use Rattle.sheet.specs.Checked.{checkedOf}
+use Rattle.sheet.specs.Checked.{checkedOf, fieldOf}
 use Rattle.walk.specs.Step.{startWalk, stepOf}
 use Rattle.walk.specs.Walked.{after}
 use Rattle.notes.specs.Note.{noteOf}
@@ -45,8 +45,9 @@ use Rattle.listing.specs.Listing.{textOf, listedOf, bufferOf}
 use Rattle.listing.specs.declared.Listed.{Listed}
 use Rattle.demands.specs.Order.{wordRules, decoded}
 use Rattle.demands.specs.JudgementLemmas as judgement
-use Rattle.demands.specs.EntryRules.{recordRules, figureRules, partRules, takeRules, contentRules, noteRules, writeRules, groupRules, roomRules, encoded, parts, taken, words, figures, checked, walked, noted, counted, written, listed}
+use Rattle.demands.specs.EntryRules.{recordRules, figureRules, partRules, takeRules, contentRules, noteRules, writeRules, groupRules, roomRules, topFieldRules, encoded, parts, taken, words, figures, checked, passed, walked, noted, counted, written, listed}
 use Rattle.demands.specs.EntryRulesLemmas.{record-follows, figure-follows, part-follows, take-follows, word-in-follows, figure-in-follows, checked-follows, inside-follows, walk-follows, note-follows, totals-follow, write-follows, group-follows, listed-follows}
+use Rattle.demands.specs.TopFieldLemmas.{top-field-follows}
 
 -- "Bad input gets the refusal number of document 01, no record, and no byte written in a buffer we lent."
 pub record Demand1 : Type 0 where
@@ -65,9 +66,12 @@ pub record Demand1 : Type 0 where
   -- the contents of a word field and of a figure field: `word_in`, `figure_in`
   pub word-content : (c : List ℕ) → Follows words (contentRules 4 c) (wordIn c)
   pub figure-content : (c : List ℕ) → Follows figures (contentRules 9 c) (figureIn c)
-  -- a sheet and the inside of a group: `check_sheet`, `check_inside`; one field, where bytes are left: `start_at`
+  -- a sheet and the inside of a group: `check_sheet`, `check_inside`
   pub sheet : (s : List ℕ) → Bytes s → Follows checked (sheetRules s) (checkedOf (sheetOf s))
   pub inside : (run : List ℕ) → Bytes run → Follows checked (insideRules run) (checkedOf (insideOf run))
+  -- a top field with its inside, at a place of a sheet: `check_top_field`
+  pub top-field : (s : List ℕ) → Bytes s → (at : ℕ) → Follows passed (topFieldRules s at) (fieldOf 1 0 at s)
+  -- one field, where bytes are left: `start_at`
   pub field : (depth : ℕ) (bs : List ℕ) → 0 < length bs → Follows started (fieldRules depth bs) (startOf depth bs)
   -- each answer of a walk from its start: `step` after `start`, `reader::next` after `reader::new`, `field_at`
   pub walk : (s : List ℕ) → Bytes s → (n : ℕ) → Follows walked (sheetRules s) (stepOf s (after n s (startWalk s)) .given)
@@ -105,6 +109,7 @@ demand1 = record {
   figure-content = figure-in-follows;
   sheet = checked-follows;
   inside = inside-follows;
+  top-field = top-field-follows;
   field = start-follows;
   walk = walk-follows;
   note = note-follows;

@@ -7,7 +7,7 @@ use mathlib.Core.Logic.{_≢_}
 use Prim.Native.Nat.{ℕ, _+_, _%_, _≤_}
 use lib.Count.{ones}
 use lib.IntN.{ℤ}
-use lib.ListN.{length}
+use lib.ListN.{length, take, drop}
 use Rattle.bits.specs.Fields.{bits}
 use Rattle.refusals.specs.Order.{Rule, asks, Answers}
 use Rattle.refusals.specs.declared.Refusal.{Refusal}
@@ -29,8 +29,9 @@ use Rattle.contents.specs.declared.WordIn.{WordIn}
 use Rattle.contents.specs.declared.FigureIn.{FigureIn}
 use Rattle.fields.specs.declared.FieldKind.{FieldKind}
 use Rattle.fields.specs.Run.{Field, Fields, sheetOf}
-use Rattle.fields.specs.Rules.{sheetRules, insideRules}
+use Rattle.fields.specs.Rules.{lengthIn, RefusedAt, Written as WrittenAt, sheetRules, insideRules}
 use Rattle.sheet.specs.declared.Checked.{Checked}
+use Rattle.sheet.specs.declared.FieldChecked.{FieldChecked}
 use Rattle.walk.specs.declared.FieldAt.{FieldAt}
 use Rattle.walk.specs.declared.Given.{Given}
 use Rattle.notes.specs.Note.{NoteText, Text, NoText}
@@ -74,6 +75,14 @@ takeRules held w = partRules w ++ (asks ((p : Part) → Carries document01 p w �
 -- a content has its kind's length
 abbrev pub contentRules : (n : ℕ) → List ℕ → List (Rule Refusal)
 contentRules n c = asks (length c ≡ n) Refusal.Length ∷ []
+
+-- the bytes of the field at a place of a sheet: its header and the content that the header tells, as far as there are bytes
+abbrev pub ownBytes : List ℕ → (at : ℕ) → List ℕ
+ownBytes s at = take (3 + lengthIn (drop at s)) (drop at s)
+
+-- A top field at a place, with its inside: its own bytes are a run at depth 1 whose first byte has that offset. Legal fields wrote them: one, or none where no byte is left.
+abbrev pub topFieldRules : List ℕ → (at : ℕ) → List (Rule (Refusal × ℕ))
+topFieldRules s at = record { kept = WrittenAt 1 (ownBytes s at); broken = λ r. RefusedAt 1 at (ownBytes s at) (r .0) (r .1) } ∷ []
 
 -- the sheet has a note whose tag stands at the place
 pub record NoteAt (s : List ℕ) (place : ℕ) : Type 0 where
@@ -149,6 +158,19 @@ sayChecked (Checked.Refused f p) = refuses (f, p)
 
 abbrev pub checked : Answers (Refusal × ℕ) Checked
 checked = saying (λ r. Checked.Refused (r .0) (r .1)) sayChecked (λ r. refl)
+
+-- no byte is left, or the sheet goes on at a place
+pub data Passed : Type 0 where
+  no-byte-left : Passed
+  goes-on : ℕ → Passed
+
+abbrev pub sayPassed : FieldChecked → Says (Refusal × ℕ) Passed
+sayPassed FieldChecked.End = gives no-byte-left
+sayPassed (FieldChecked.Next next) = gives (goes-on next)
+sayPassed (FieldChecked.Refused f p) = refuses (f, p)
+
+abbrev pub passed : Answers (Refusal × ℕ) FieldChecked
+passed = saying (λ r. FieldChecked.Refused (r .0) (r .1)) sayPassed (λ r. refl)
 
 -- the next field, or the end
 pub data Next : Type 0 where

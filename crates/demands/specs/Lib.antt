@@ -22,3 +22,4 @@ pub mod JudgementLemmas
 pub mod WritingLemmas
 pub mod ChainedLemmas
 pub mod EntryRulesLemmas
+pub mod TopFieldLemmas
