@@ -30,7 +30,8 @@ use Rattle.contents.specs.Contents.{wordIn, figureIn}
 use Rattle.fields.specs.declared.FieldKind.{FieldKind}
 use Rattle.fields.specs.Grammar.{Bytes}
 use Rattle.fields.specs.Rules.{fieldRules, sheetRules, insideRules}
-use Rattle.fields.specs.RulesLemmas.{started, start-follows}
+use Rattle.fields.specs.Answers.{started}
+use Rattle.fields.specs.RulesLemmas.{start-follows}
 use Rattle.fields.specs.Run.{sheetOf, insideOf}
 use Rattle.fields.specs.Start.{startOf}
 use Rattle.sheet.specs.Checked.{checkedOf, fieldOf}

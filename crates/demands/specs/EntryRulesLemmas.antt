@@ -45,7 +45,8 @@ use Rattle.contents.specs.declared.FigureIn.{FigureIn}
 use Rattle.contents.specs.Contents.{wordIn, figureIn}
 use Rattle.fields.specs.declared.FieldKind.{FieldKind}
 use Rattle.fields.specs.Grammar.{Bytes}
-use Rattle.fields.specs.Judged.{scanned, sheet-order, inside-order}
+use Rattle.fields.specs.Answers.{scanned}
+use Rattle.fields.specs.Judged.{sheet-order, inside-order}
 use Rattle.fields.specs.Rules.{sheetRules, insideRules}
 use Rattle.fields.specs.Run.{Field, Scan, Fields, Refused, sheetLimit, sheetOf, insideOf}
 use Rattle.sheet.specs.Checked.{checkedOf}

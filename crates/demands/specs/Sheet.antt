@@ -18,7 +18,8 @@ use Rattle.contents.specs.declared.FigureIn.{FigureIn}
 use Rattle.contents.specs.declared.WordIn.{WordIn}
 use Rattle.fields.specs.declared.FieldKind.{FieldKind}
 use Rattle.fields.specs.Grammar.{Trees, no-more, leaf, group, bytesOf, fieldsOf, Bytes, no-byte, Allowed, no-more-allowed, leaf-allowed, group-allowed, WrittenBy, sheet-written, written-sheet}
-use Rattle.fields.specs.Judged.{scanned, sheet-order}
+use Rattle.fields.specs.Answers.{scanned}
+use Rattle.fields.specs.Judged.{sheet-order}
 use Rattle.fields.specs.Judged as judged
 use Rattle.fields.specs.Limits as limits
 use Rattle.fields.specs.Rules.{RefusedAt, sheetRules}

@@ -16,7 +16,7 @@ use Rattle.refusals.specs.declared.Refusal.{Refusal}
 use Rattle.fields.specs.declared.Start.{Start}
 use Rattle.fields.specs.declared.TagLookup.{TagLookup}
 use Rattle.fields.specs.Grammar.{fieldsOf, Bytes, no-byte, byte, written-legal, legal-written}
-use Rattle.fields.specs.Judged.{scanned, never}
+use Rattle.fields.specs.Answers.{scanned, never}
 use Rattle.fields.specs.Laws.{StartView, at-end, refused, header, start-view, run-step}
 use Rattle.fields.specs.Rules.{lengthIn}
 use Rattle.fields.specs.RulesLemmas.{refused-so, refused-only-so}

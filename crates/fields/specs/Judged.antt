@@ -8,27 +8,13 @@ use native.Mathlib.Omega.{arith}
 use borrow.Author.Tests.{ltb-true, ltb-false}
 use lib.Dec.{ltb}
 use lib.ListN.{length}
-use Rattle.refusals.specs.Order.{Answers, Follows, kept-first, broken-first, kept-one, broken-one, no-rules}
+use Rattle.refusals.specs.Order.{Follows, kept-first, broken-first, kept-one, broken-one, no-rules}
 use Rattle.refusals.specs.declared.Refusal.{Refusal}
 use Rattle.fields.specs.Run.{Field, Scan, Fields, Refused, sheetLimit, runOf, sheetOf, insideOf}
 use Rattle.fields.specs.Grammar.{fieldsOf, Bytes, written-legal, legal-written}
+use Rattle.fields.specs.Answers.{never, same-refusal, scanned}
 use Rattle.fields.specs.Rules.{RefusedAt, Written, runRule, sheetRules, insideRules}
 use Rattle.fields.specs.RulesLemmas.{refused-so, refused-only-so}
-
-pub never : (fs : List Field) (f : Refusal) (p : ℕ) → Refused f p ≡ Fields fs → ⊥
-never fs f p e = let z : _≡_ {A = ℕ} 0 1 = cc in omega arith
-
-pub same-refusal : (f g : Refusal) (p q : ℕ) → Refused f p ≡ Refused g q → (f ≡ g) × (p ≡ q)
-same-refusal f g p q e = (cc, cc)
-
--- a run is refused at an offset, or has fields
-abbrev pub scanned : Answers (Refusal × ℕ) Scan
-scanned = record {
-  refuse = λ r. Refused (r .0) (r .1);
-  accepts = λ s. (fs : List Field) × (s ≡ Fields fs);
-  apart = λ r h. never (h .0) (r .0) (r .1) (h .1);
-  once = λ r s e. let same = same-refusal (r .0) (s .0) (r .1) (s .1) e in λ i. (same .0 i, same .1 i);
-}
 
 -- At most one refusal at one offset is given to a run.
 pub one-refusal : {d p q r : ℕ} {bs : List ℕ} {f g : Refusal} → RefusedAt d p bs f q → RefusedAt d p bs g r → (f ≡ g) × (q ≡ r)

@@ -8,6 +8,7 @@ pub mod Grammar
 pub mod AndThenLemmas
 pub mod Append
 pub mod Moved
+pub mod Answers
 pub mod Rules
 pub mod RulesLemmas
 pub mod Judged

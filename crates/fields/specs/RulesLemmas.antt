@@ -10,7 +10,7 @@ use native.Mathlib.Omega.{arith}
 use borrow.Author.Tests.{eqb-true, eq-eqb, ltb-true, ltb-false, lt-ltb}
 use lib.Dec.{ltb}
 use lib.ListN.{length, length-append}
-use Rattle.refusals.specs.Order.{Rule, asks, Answers, Follows, kept-one, broken-one, tested, no-rules}
+use Rattle.refusals.specs.Order.{Rule, asks, Follows, kept-one, broken-one, tested, no-rules}
 use Rattle.refusals.specs.declared.Refusal.{Refusal}
 use Rattle.fields.specs.declared.FieldKind.{FieldKind}
 use Rattle.fields.specs.declared.TagLookup.{TagLookup}
@@ -20,24 +20,10 @@ use Rattle.fields.specs.Run.{Field, Scan, Fields, Refused, _andThen_, in
 use Rattle.fields.specs.Laws.{StartView, refused, start-view, run-step}
 use Rattle.fields.specs.Append.{append}
 use Rattle.fields.specs.Grammar.{Trees, no-more, leaf, group, bytesOf, fieldsOf, Bytes, no-byte, Allowed, no-more-allowed, leaf-allowed, group-allowed, run-written, run-one, written-legal, bytes-written, tag-known, FirstField, first-field, legal-written}
+use Rattle.fields.specs.Answers.{started}
 use Rattle.fields.specs.Rules.{fieldRules, RefusedAt, breaks-rule, in-group}
 
 -- ---- what stands at the start of a run follows the rules of a field
-
-pub never : (k : FieldKind) (n : ℕ) (f : Refusal) → Start.Refused f ≡ Start.Field k n → ⊥
-never k n f e = let z : _≡_ {A = ℕ} 0 1 = cc in omega arith
-
-pub one-refusal : (f g : Refusal) → Start.Refused f ≡ Start.Refused g → f ≡ g
-one-refusal f g e = cc
-
--- a field is refused, or stands there
-abbrev pub started : Answers Refusal Start
-started = record {
-  refuse = Start.Refused;
-  accepts = λ s. (k : FieldKind) × (n : ℕ) × (s ≡ Start.Field k n);
-  apart = λ f h. never (h .0) (h .1) f (h .2);
-  once = one-refusal;
-}
 
 length-test : (k : FieldKind) (t n : ℕ) → t ≡ tagOf k → (lengthAllowed k n ≡ true) ↔ ((t ≡ 0x10 → n ≡ 4) × (t ≡ 0x11 → n ≡ 9))
 length-test FieldKind.Word t n e = (λ h. (λ g. eqb-true n 4 h, λ g. absurd (omega arith)), λ h. eq-eqb n 4 (h .0 e))
