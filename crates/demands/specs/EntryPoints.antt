@@ -14,15 +14,17 @@ use lib.ListN.{length, drop}
 use Rattle.refusals.specs.Order.{Follows}
 use Rattle.refusals.specs.declared.Refusal.{Refusal}
 use Rattle.records.specs.declared.Record.{Record}
-use Rattle.labels.specs.Assignment.{document01}
-use Rattle.decode.specs.Decode.{decodeOf}
-use Rattle.encode.specs.Encode.{encodeOf}
+use Rattle.labels.specs.Label.{labelOf}
+use Rattle.labels.specs.Assignment.{Assignment, document01}
+use Rattle.decode.specs.Decode.{decodeAs, decodeOf}
+use Rattle.encode.specs.Encode.{encodeAs, recordLabel, encodeOf}
 use Rattle.chart.specs.Chart.{chartOf}
 use Rattle.chart.specs.Points.{charted, chart-order}
 use Rattle.chart.specs.Points as points
 use Rattle.chart.specs.Words.{chartPoint, word-order}
 use Rattle.chart.specs.Words as chart-words
-use Rattle.figures.specs.Coding.{codedOf}
+use Rattle.quantities.specs.declared.Quantity.{Quantity}
+use Rattle.figures.specs.Coding.{codedUnder, codedOf}
 use Rattle.reassembly.specs.Parts.{partIn}
 use Rattle.reassembly.specs.Step.{takeWord}
 use Rattle.reassembly.specs.declared.Reassembler.{Reassembler}
@@ -42,22 +44,25 @@ use Rattle.totals.specs.Totals.{totalsOf}
 use Rattle.writer.specs.Buffer.{unchanged, group-unchanged}
 use Rattle.writer.specs.Write.{writeOf, groupOf}
 use Rattle.writer.specs.declared.Written.{Written}
-use Rattle.listing.specs.Listing.{textOf, listedOf, bufferOf}
+use Rattle.listing.specs.Listing.{listedOf, bufferOf}
 use Rattle.listing.specs.declared.Listed.{Listed}
 use Rattle.demands.specs.Order.{wordRules, decoded}
 use Rattle.demands.specs.JudgementLemmas as judgement
-use Rattle.demands.specs.EntryRules.{recordRules, figureRules, partRules, takeRules, contentRules, noteRules, writeRules, groupRules, roomRules, topFieldRules, encoded, parts, taken, words, figures, checked, passed, walked, noted, counted, written, listed}
-use Rattle.demands.specs.EntryRulesLemmas.{record-follows, figure-follows, part-follows, take-follows, word-in-follows, figure-in-follows, checked-follows, inside-follows, walk-follows, note-follows, totals-follow, write-follows, group-follows, listed-follows}
+use Rattle.demands.specs.EntryRules.{recordRules, recordRulesAs, figureRules, figureRulesAs, partRules, takeRules, contentRules, noteRules, writeRules, groupRules, roomRules, topFieldRules, encoded, parts, taken, words, figures, checked, passed, walked, noted, counted, written, listed}
+use Rattle.demands.specs.EntryRulesLemmas.{record-follows, record-follows-as, figure-follows, figure-follows-as, part-follows, take-follows, word-in-follows, figure-in-follows, checked-follows, inside-follows, walk-follows, note-follows, totals-follow, write-follows, group-follows, listed-follows}
 use Rattle.demands.specs.TopFieldLemmas.{top-field-follows}
 
 -- "Bad input gets the refusal number of document 01, no record, and no byte written in a buffer we lent."
 pub record Demand1 : Type 0 where
-  -- a word to its record: `decode`
+  -- a word to its record: `decode`, and `decode_as` with the kind that the word's label has under any labels
   pub word : (w : ℕ) → w < 2 ^ 32 → Follows decoded (wordRules document01 w) (decodeOf w)
-  -- a record to its word: `encode`
+  pub word-as : (a : Assignment) (w : ℕ) → w < 2 ^ 32 → Follows decoded (wordRules a w) (decodeAs (a .kind (labelOf w)) w)
+  -- a record to its word: `encode`, and `encode_as` under any label
   pub «record» : (r : Record) → Follows encoded (recordRules r) (encodeOf r)
-  -- a figure to its word: `code_figure`
+  pub record-as : (label : ℕ) (r : Record) → Follows encoded (recordRulesAs label r) (encodeAs label r)
+  -- a figure to its word: `code_figure`, and `code_under` under any label
   pub figure : (label source : ℕ) (millionths : ℤ) → Follows encoded (figureRules label source millionths) (codedOf label source millionths)
+  pub figure-as : (q : Quantity) (label source : ℕ) (millionths : ℤ) → Follows encoded (figureRulesAs q source millionths) (codedUnder q label source millionths)
   -- two words, or two records, to a chart point: `chart_point`, `chart_of`
   pub chart : (course glide : ℕ) → Follows charted (chart-words.wordRules course glide) (chartPoint course glide)
   pub chart-records : (course glide : Record) → Follows charted (points.recordRules course glide) (chartOf course glide)
@@ -85,9 +90,9 @@ pub record Demand1 : Type 0 where
   -- a group into a buffer: `write_group`
   pub group : (out : List ℕ) (place : ℕ) (run : List ℕ) → Bytes run → Follows written (groupRules (length out) place run) (groupOf out place run .answer)
   pub group-untouched : (out : List ℕ) (place : ℕ) (run : List ℕ) (f : Refusal) (p : ℕ) → groupOf out place run .answer ≡ Written.Refused f p → groupOf out place run .buffer ≡ out
-  -- the listing of a sheet into a buffer: `list_sheet`
-  pub list : (s out : List ℕ) → Follows listed (roomRules (length out) (length (textOf s))) (listedOf (textOf s) out)
-  pub list-untouched : (s out : List ℕ) (f : Refusal) → listedOf (textOf s) out ≡ Listed.Refused f → bufferOf (textOf s) out ≡ out
+  -- a text into a buffer, the listing of a sheet or the lines of its fields: `list_sheet`, `list_fields`
+  pub list : (text out : List ℕ) → Follows listed (roomRules (length out) (length text)) (listedOf text out)
+  pub list-untouched : (text out : List ℕ) (f : Refusal) → listedOf text out ≡ Listed.Refused f → bufferOf text out ≡ out
 
 listed-unchanged : (text out : List ℕ) (f : Refusal) → listedOf text out ≡ Listed.Refused f → bufferOf text out ≡ out
 listed-unchanged text out f = by (ltb (length out) (length text))
@@ -100,8 +105,11 @@ listed-unchanged text out f = by (ltb (length out) (length text))
 pub demand1 : Demand1
 demand1 = record {
   word = judgement.word-order document01;
-  «record» = record-follows;
+  word-as = judgement.word-order;
+  «record» = λ r. record-follows (recordLabel document01 r) r;
+  record-as = record-follows-as;
   figure = figure-follows;
+  figure-as = figure-follows-as;
   chart = word-order;
   chart-records = chart-order;
   part = part-follows;
@@ -119,6 +127,6 @@ demand1 = record {
   write-untouched = unchanged;
   group = group-follows;
   group-untouched = group-unchanged;
-  list = λ s out. listed-follows (textOf s) out;
-  list-untouched = λ s out. listed-unchanged (textOf s) out;
+  list = listed-follows;
+  list-untouched = listed-unchanged;
 }

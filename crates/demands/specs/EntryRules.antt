@@ -48,6 +48,10 @@ use Rattle.demands.specs.Legal.{LegalCodes, LegalValues}
 abbrev pub recordRules : Record → List (Rule Refusal)
 recordRules r = asks (LegalCodes r) Refusal.Code ∷ asks (LegalValues r) Refusal.Value ∷ []
 
+-- the same under a label that is handed in: 2 before both where it has more than 8 bits
+abbrev pub recordRulesAs : (label : ℕ) → Record → List (Rule Refusal)
+recordRulesAs label r = asks (label ≤ 255) Refusal.Label ∷ recordRules r
+
 -- "Coding a figure takes label, source and a signed 64-bit whole number of millionths. Order: 2, 4, 8." (`Beyond` is when a figure of a quantity is out of reach)
 abbrev pub reachRule : (label : ℕ) → ℤ → Rule Refusal
 reachRule label figure = record {
@@ -58,6 +62,10 @@ reachRule label figure = record {
 abbrev pub figureRules : (label source : ℕ) → ℤ → List (Rule Refusal)
 figureRules label source figure =
     asks ((q : Quantity) × (label ≡ labelFor document01 q)) Refusal.Label ∷ asks (source ≤ 3) Refusal.Code ∷ reachRule label figure ∷ []
+
+-- the same of a quantity, under any label of 8 bits
+abbrev pub figureRulesAs : Quantity → (source : ℕ) → ℤ → List (Rule Refusal)
+figureRulesAs q source figure = asks (source ≤ 3) Refusal.Code ∷ asks (Beyond q figure → ⊥) Refusal.Reach ∷ []
 
 -- A word as a part: its parity, one of the labels 140 to 143, its zero bits, and bits 31, 30, which read 00 to 11 for parts 1 to 4.
 abbrev pub partRules : ℕ → List (Rule Refusal)

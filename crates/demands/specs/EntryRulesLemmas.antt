@@ -18,7 +18,7 @@ use Rattle.records.specs.declared.Kind.{Kind}
 use Rattle.records.specs.declared.Record.{Record}
 use Rattle.labels.specs.Label.{labelOf}
 use Rattle.labels.specs.Assignment.{Assignment, document01}
-use Rattle.encode.specs.Encode.{codesListed, valuesLegal, wordOf, encodeOf}
+use Rattle.encode.specs.Encode.{codesListed, valuesLegal, wordAs, encodeUnder, encodeAs}
 use Rattle.encode.specs.declared.Encoded.{Encoded}
 use Rattle.quantities.specs.Nearest.{nearestCount}
 use Rattle.quantities.specs.Statements.{Beyond}
@@ -67,19 +67,38 @@ use Rattle.demands.specs.ChainedLemmas.{chained}
 use Rattle.demands.specs.Legal.{LegalCodes, LegalValues}
 use Rattle.demands.specs.TestsLemmas.{odd-test}
 use Rattle.demands.specs.WritingLemmas.{legal-codes-test, values-test}
-use Rattle.demands.specs.EntryRules.{recordRules, reachRule, figureRules, partRules, takeRules, contentRules, NoteAt, noteRules, writeRules, groupRules, roomRules, encoded, parts, taken, words, figures, checked, walked, noted, counted, written, listed}
+use Rattle.demands.specs.EntryRules.{recordRules, recordRulesAs, reachRule, figureRules, figureRulesAs, partRules, takeRules, contentRules, NoteAt, noteRules, writeRules, groupRules, roomRules, encoded, parts, taken, words, figures, checked, walked, noted, counted, written, listed}
 
 -- ---- records and figures
 
-pub record-follows : (r : Record) → Follows encoded (recordRules r) (encodeOf r)
-record-follows r =
+pub record-follows : (label : ℕ) (r : Record) → Follows encoded (recordRules r) (encodeUnder label r)
+record-follows label r =
     let codes = legal-codes-test r in
     let values = values-test (r .body) in
     tested encoded (leb (r .source) 3 && codesListed (r .body)) (LegalCodes r) Refusal.Code _ _ (codes .0) (codes .1)
-    (λ c. tested encoded (valuesLegal (r .body)) (LegalValues r) Refusal.Value [] _ (values .0) (values .1) (λ v. no-rules encoded (Encoded.Word (wordOf document01 r)) (wordOf document01 r, refl)))
+    (λ c. tested encoded (valuesLegal (r .body)) (LegalValues r) Refusal.Value [] _ (values .0) (values .1) (λ v. no-rules encoded (Encoded.Word (wordAs label r)) (wordAs label r, refl)))
 
 at-most : (m n : ℕ) → (leb m n ≡ true) ↔ (m ≤ n)
 at-most m n = (λ e. leb-true m n e, λ h. le-leb m n h)
+
+pub record-follows-as : (label : ℕ) (r : Record) → Follows encoded (recordRulesAs label r) (encodeAs label r)
+record-follows-as label r =
+    let short = at-most label 255 in
+    tested encoded (leb label 255) (label ≤ 255) Refusal.Label _ _ (short .0) (short .1) (λ l. record-follows label r)
+
+pub figure-follows-as : (q : Quantity) (label source : ℕ) (figure : ℤ) → Follows encoded (figureRulesAs q source figure) (codedUnder q label source figure)
+figure-follows-as q label source figure =
+    let few = at-most source 3 in
+    tested encoded (leb source 3) (source ≤ 3) Refusal.Code _ _ (few .0) (few .1) (λ s. by (nearestCount q figure) refl)
+  where
+    by : (n : Nearest) → nearestCount q figure ≡ n → Follows encoded (asks (Beyond q figure → ⊥) Refusal.Reach ∷ []) (codedNearest q label source n)
+    by (Nearest.Count c) e =
+        let w : Encoded = codedNearest q label source (Nearest.Count c) in
+        let within : Beyond q figure → ⊥ = λ b.
+        let out : Nearest.Count c ≡ Nearest.OutOfReach = sym e ∙ quantities.refused q figure .1 b in
+        let z : _≡_ {A = ℕ} 0 1 = cc in omega arith in
+        kept-one encoded (Beyond q figure → ⊥) Refusal.Reach [] w within (no-rules encoded w (_, refl))
+    by Nearest.OutOfReach e = broken-one encoded (Beyond q figure → ⊥) Refusal.Reach [] (λ n. n (quantities.refused q figure .0 e))
 
 module _ (label source : ℕ) (figure : ℤ) where
   -- a label stands for one quantity only
