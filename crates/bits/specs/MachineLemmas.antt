@@ -1,14 +1,14 @@
 -- A signed number of the machine by its sign and its size, for every width: below 0 it is -k-1 for its `mag` k, which `!` makes of it.
 -- Assumes nothing.
 use mathlib.Core.Path.{_≡_, refl, sym, ap, ap₂, _∙_, subst}
-use mathlib.Core.Bool.{true, false, true≢false}
-use Prim.Native.Nat.{ℕ, suc, _-_, _^_, _<_}
+use mathlib.Core.Bool.{true, false, true≢false, _&&_, and-true}
+use Prim.Native.Nat.{ℕ, suc, _-_, _^_}
 use native.Mathlib.Omega.{arith}
 use borrow.Author.Tests.{le-ltb}
-use lib.Dec.{T, ltb}
+use lib.Dec.{T, ltb, leb, leb·suc-suc}
 use lib.IntN.{ℤ, pos, negsuc, natAbs}
 use lib.Pow.{pow-pos}
-use lib.Signed.{mag, ltZ, nonNeg}
+use lib.Signed.{mag, ltZ, leZ, nonNeg}
 use mir.Syntax.{Width, w8, w16, w32, w64, w128}
 use mir.Val.{bits, hbits, toZ, ofZ, Fits, SFits}
 use mir.Facts.{toZ-pos, toZ-ofZ, fits-natAbs}
@@ -38,3 +38,11 @@ positive w (negsuc k) f t = absurd (true≢false (sym (below-zero w (negsuc k) f
 pub castable : (w v : Width) (x z : ℤ) → T (ltb (hbits w) (bits v)) → SFits w z → x ≡ pos (mag z) → T (nonNeg x) × Fits v (natAbs x)
 castable w v x z t f e =
     subst (λ (y : ℤ). T (nonNeg y) × Fits v (natAbs y)) (sym e) (tt, fits-natAbs {w = w} {w′ = v} {z = pos (mag z)} t (record { sfits = f .sfits }))
+
+-- a number from -n-1 to n, tested as the machine does and by its `mag`
+within : (n : ℕ) (z : ℤ) → (leZ (negsuc n) z && leZ z (pos n)) ≡ ltb (mag z) (suc n)
+within n (pos k) = sym (leb·suc-suc k n)
+within n (negsuc k) = and-true (leb k n) ∙ sym (leb·suc-suc k n)
+
+pub in-range : {w : Width} (n : ℕ) (z : ℤ) → SFits w z → (leZ (negsuc n) (toZ w (ofZ w z)) && leZ (toZ w (ofZ w z)) (pos n)) ≡ ltb (mag z) (suc n)
+in-range n z f = ap (λ (x : ℤ). leZ (negsuc n) x && leZ x (pos n)) (toZ-ofZ f) ∙ within n z

@@ -13,8 +13,6 @@ use Rattle.bits.specs.Laws.{both-true}
 use Rattle.records.specs.All.{placeOf, one-place}
 use Rattle.records.specs.Kinds.{kindOf}
 use Rattle.records.specs.declared.Body.{Body}
-use Rattle.records.specs.declared.CourseCount.{CourseCount}
-use Rattle.records.specs.declared.GlideCount.{GlideCount}
 use Rattle.records.specs.declared.Kind.{Kind}
 use Rattle.records.specs.declared.Record.{Record}
 use Rattle.refusals.specs.Order.{Rule, asks, Answers, Follows, no-rules, kept-one, broken-one, tested, reworded}

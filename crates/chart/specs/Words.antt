@@ -30,7 +30,6 @@ use Rattle.decode.specs.Rules.{rules, bodyOf}
 use Rattle.decode.specs.Decode.{judgement, judged, recordOf, decodeFound, decodeOf}
 use Rattle.decode.specs.declared.Decoded.{Decoded}
 use Rattle.decode.specs.declared.Judgement.{Judgement}
-use Rattle.doubles.specs.Doubles.{courseOf, glideOf}
 use Rattle.doubles.specs.Exact.{IsCount}
 use Rattle.doubles.specs.Nearest.{IsNearest}
 use Rattle.readings.specs.Readings.{courseReading, glideReading, readingOf, shownUnder}

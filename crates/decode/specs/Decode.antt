@@ -1,7 +1,7 @@
 -- A word's record, or its refusal: the tests in document 01's order, 1, 2, 3, 5, 4, 6, 7.
 -- Assumes nothing.
 use mathlib.Core.Path.{_≡_}
-use mathlib.Core.Bool.{Bool, true, false, cond}
+use mathlib.Core.Bool.{true, false, cond}
 use Prim.Native.Nat.{ℕ}
 use Rattle.bits.specs.Fields.{bits}
 use Rattle.bits.specs.Layout.{clear}

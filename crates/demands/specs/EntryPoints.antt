@@ -3,7 +3,7 @@
 -- their contracts: it is refused with f (at p) exactly when f is what the first broken rule of its list gives, and gives its answer exactly when none is broken. No answer does both.
 -- Words are 32-bit numbers, and the bytes of a sheet are below 256.
 -- Assumes nothing.
-use mathlib.Core.Path.{_≡_, refl, ap}
+use mathlib.Core.Path.{_≡_, refl}
 use mathlib.Core.Bool.{Bool, true, false, cond}
 use mathlib.Core.List.{List, _++_}
 use Prim.Native.Nat.{ℕ, _^_, _<_}

@@ -2,14 +2,14 @@
 -- Assumes nothing.
 use mathlib.Core.Path.{_≡_, refl, sym, ap, subst, subst⁻¹, _∙_}
 use mathlib.Core.Bool.{Bool, true, false, cond, _&&_}
-use mathlib.Core.List.{List, [], _∷_, _++_, List·Memᴰ, List·Memᴰ·head, List·Memᴰ·tail}
+use mathlib.Core.List.{List, [], _∷_, List·Memᴰ, List·Memᴰ·head, List·Memᴰ·tail}
 use mathlib.Core.Logic.{_⊎_, inl, inr, _↔_, _≢_}
 use Prim.Native.Nat.{ℕ, zero, suc, _+_, _^_, _≤_, _<_}
 use native.Mathlib.Omega.{arith}
 use borrow.Author.Tests.{eqb-true, eqb-false, eq-eqb, leb-true, le-leb, ltb-true, ltb-false}
 use lib.Dec.{eqb, leb, ltb}
 use lib.IntN.{ℤ}
-use lib.ListN.{length, drop}
+use lib.ListN.{length}
 use Rattle.bits.specs.Fields.{bits}
 use Rattle.bits.specs.Parity.{odd}
 use Rattle.refusals.specs.Order.{Rule, asks, Follows, no-rules, kept-first, broken-first, kept-one, broken-one, tested}
@@ -17,7 +17,7 @@ use Rattle.refusals.specs.declared.Refusal.{Refusal}
 use Rattle.records.specs.declared.Kind.{Kind}
 use Rattle.records.specs.declared.Record.{Record}
 use Rattle.labels.specs.Label.{labelOf}
-use Rattle.labels.specs.Assignment.{Assignment, document01}
+use Rattle.labels.specs.Assignment.{document01}
 use Rattle.encode.specs.Encode.{codesListed, valuesLegal, wordAs, encodeUnder, encodeAs}
 use Rattle.encode.specs.declared.Encoded.{Encoded}
 use Rattle.quantities.specs.Nearest.{nearestCount}
@@ -40,8 +40,6 @@ use Rattle.reassembly.specs.Step.{answerOf, stepOf, takeWord}
 use Rattle.reassembly.specs.declared.PartIn.{PartIn}
 use Rattle.reassembly.specs.declared.Reassembler.{Reassembler}
 use Rattle.reassembly.specs.declared.WordAnswer.{WordAnswer}
-use Rattle.contents.specs.declared.WordIn.{WordIn}
-use Rattle.contents.specs.declared.FigureIn.{FigureIn}
 use Rattle.contents.specs.Contents.{wordIn, figureIn}
 use Rattle.fields.specs.declared.FieldKind.{FieldKind}
 use Rattle.fields.specs.Grammar.{Bytes}
@@ -53,13 +51,11 @@ use Rattle.sheet.specs.Checked.{checkedOf}
 use Rattle.walk.specs.Step.{startWalk}
 use Rattle.walk.specs.Step as walk
 use Rattle.walk.specs.Walked.{after}
-use Rattle.walk.specs.declared.Given.{Given}
 use Rattle.reader.specs.Fields.{fieldIn, fieldAt, walk-gives-at}
-use Rattle.notes.specs.Note.{NoteText, Text, NoText, isNote, noteIn, noteOf}
+use Rattle.notes.specs.Note.{Text, NoText, isNote, noteIn, noteOf}
 use Rattle.notes.specs.Place.{note-by-place}
 use Rattle.totals.specs.Totals.{totalsOf}
-use Rattle.totals.specs.declared.Counted.{Counted}
-use Rattle.writer.specs.Write.{Write, answerOf as writeAnswer, writeOf, unlessRefused, groupOf}
+use Rattle.writer.specs.Write.{answerOf as writeAnswer, writeOf, unlessRefused, groupOf}
 use Rattle.writer.specs.declared.Written.{Written}
 use Rattle.listing.specs.Listing.{listedOf}
 use Rattle.listing.specs.declared.Listed.{Listed}

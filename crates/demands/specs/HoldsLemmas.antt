@@ -1,17 +1,17 @@
 -- What decoding reads from a word is what the word's bits hold, and nothing else is.
 -- Assumes nothing.
 use mathlib.Core.Path.{_≡_, refl, sym, ap, ap₂, _∙_, subst}
-use mathlib.Core.Logic.{_⊎_, inl, inr, _↔_, _≢_}
+use mathlib.Core.Logic.{inl, inr, _↔_, _≢_}
 use mathlib.Core.Bool.{Bool, true, false, cond}
-use mathlib.Core.List.{List, [], _∷_}
+use mathlib.Core.List.{[], _∷_}
 use Prim.Native.Nat.{ℕ, zero, suc, _+_, _-_, _*_, _/_, _%_, _^_, _<_, _≤_}
 use native.Mathlib.Nat.{mod-lt, mod-one, add-comm}
 use native.Mathlib.Omega.{arith}
 use borrow.Author.Tests.{lt-ltb, le-ltb}
 use lib.Dec.{eqb, ltb, lit<}
-use lib.IntN.{ℤ, pos, negsuc, negℤ, _-ℤ_}
+use lib.IntN.{pos, negsuc, negℤ, _-ℤ_}
 use lib.Pow.{pow-pos, mod-pow-add, shr-shr}
-use Rattle.rounding.specs.Parts.{positivePart, negativePart, positive-add, negative-add, positive-neg, negative-neg, parts-equal}
+use Rattle.rounding.specs.Parts.{positive-add, negative-add, positive-neg, negative-neg, parts-equal}
 use Rattle.bits.specs.Fields.{bits, digits}
 use Rattle.bits.specs.Complement as complement
 use Rattle.codes.specs.Codes.{binaryCode, binaryStatus, decimalCode, decimalStatus, markerCode, markerOf, categoryCode, categoryOf, flagBit, binary-code, binary-status, decimal-status, marker-of, category-code, category-of, flag-bit, flag-of}
@@ -26,7 +26,7 @@ use Rattle.records.specs.declared.Kind.{Kind}
 use Rattle.labels.specs.Label.{labelOf}
 use Rattle.decode.specs.Rules.{bodyOf, frequencyIn}
 use Rattle.readings.specs.Meaning.{HasStatus}
-use Rattle.demands.specs.Holds.{bit, Bits, sum, number, signed, BinaryStatus, DecimalStatus, MarkerIs, CategoryIs, Flag, belowTens, VhfIs, SentAs, MlsIs, HoldsBody, StatusIs}
+use Rattle.demands.specs.Holds.{bit, Bits, sum, number, signed, BinaryStatus, DecimalStatus, MarkerIs, CategoryIs, Flag, belowTens, SentAs, MlsIs, HoldsBody, StatusIs}
 use Rattle.demands.specs.Allowed.{asks}
 
 bit-lt : (k w : ℕ) → bit k w < 2

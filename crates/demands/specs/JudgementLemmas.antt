@@ -2,7 +2,7 @@
 -- Assumes nothing.
 use mathlib.Core.Path.{_≡_, refl, sym, ap, _∙_, subst, subst⁻¹}
 use mathlib.Core.Bool.{Bool, true, false, cond}
-use mathlib.Core.List.{List, [], _∷_}
+use mathlib.Core.List.{List, _∷_}
 use mathlib.Core.Logic.{_↔_}
 use Prim.Native.Nat.{ℕ, _^_, _<_}
 use native.Mathlib.Omega.{arith}
@@ -18,13 +18,13 @@ use Rattle.refusals.specs.declared.Refusal.{Refusal}
 use Rattle.labels.specs.Label.{labelOf}
 use Rattle.labels.specs.Assignment.{Assignment}
 use Rattle.labels.specs.declared.Lookup.{Lookup}
-use Rattle.decode.specs.Rules.{Rules, rules}
+use Rattle.decode.specs.Rules.{rules}
 use Rattle.decode.specs.Decode.{judgement, recordOf, judged, decodeKind, decodeFound, decodeWith}
 use Rattle.decode.specs.declared.Decoded.{Decoded}
 use Rattle.decode.specs.declared.Judgement.{Judgement}
 use Rattle.demands.specs.Table.{ZeroBits}
 use Rattle.demands.specs.TableLemmas.{zero-bits}
-use Rattle.demands.specs.Allowed.{Asks, asks, Allowed}
+use Rattle.demands.specs.Allowed.{asks, Allowed}
 use Rattle.demands.specs.Order.{OfItsKind, fieldRules, wordRules, decoded}
 use Rattle.demands.specs.TestsLemmas as tests
 use Rattle.demands.specs.TestsLemmas.{odd-test}

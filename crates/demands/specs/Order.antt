@@ -14,7 +14,7 @@ use Rattle.labels.specs.Label.{labelOf}
 use Rattle.labels.specs.Assignment.{Assignment}
 use Rattle.decode.specs.declared.Decoded.{Decoded}
 use Rattle.demands.specs.Table.{ZeroBits}
-use Rattle.demands.specs.Allowed.{Asks, asks}
+use Rattle.demands.specs.Allowed.{asks}
 
 -- what holds of the kind that the word's label stands for
 abbrev pub OfItsKind : Assignment → ℕ → (Kind → Type 0) → Type 0

@@ -7,8 +7,6 @@ use lib.ListN.{length, replicate}
 use Rattle.refusals.specs.declared.Refusal.{Refusal}
 use Rattle.fields.specs.Run.{Field, Fields, Refused, sheetOf}
 use Rattle.walk.specs.declared.Given.{Given}
-use Rattle.walk.specs.declared.Walk.{Walk}
-use Rattle.walk.specs.declared.WalkStep.{WalkStep}
 use Rattle.walk.specs.Step.{startWalk, stepOf}
 use Rattle.walk.specs.Walked.{InSheet, after, givenOf, walked, walk-gives, walk-ends, walk-refused, content-in-sheet}
 use Rattle.reader.specs.Fields.{fieldAt, walk-gives-at}

@@ -3,12 +3,12 @@
 -- Assumes nothing.
 use mathlib.Core.Path.{_≡_, refl}
 use mathlib.Core.List.{List, [], _∷_, _++_, map}
-use Prim.Native.Nat.{ℕ, zero, suc, _+_, _-_, _*_, _^_}
+use Prim.Native.Nat.{ℕ, zero, suc, _+_, _-_, _^_}
 use Rattle.bits.specs.Layout.{Segment, part, gap}
 use Rattle.records.specs.All.{kinds, agree}
 use Rattle.records.specs.Layouts.{layout}
 use Rattle.records.specs.declared.Kind.{Kind}
-use Rattle.labels.specs.Assignment.{Assignment, document01}
+use Rattle.labels.specs.Assignment.{document01}
 use Rattle.labels.specs.Table.{rowOf}
 use Rattle.demands.specs.Holds.{number}
 

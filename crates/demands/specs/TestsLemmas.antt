@@ -1,14 +1,14 @@
 -- Each test that decoding makes says just what the layouts ask.
 -- Assumes nothing.
 use mathlib.Core.Path.{_≡_, refl, sym, ap, ap₂, subst, _∙_}
-use mathlib.Core.Bool.{Bool, true, false, not, _&&_, and-true}
+use mathlib.Core.Bool.{Bool, true, not, _&&_, and-true}
 use mathlib.Core.Logic.{_↔_, _≢_}
 use Prim.Native.Nat.{ℕ, zero, suc, _+_, _-_, _*_, _/_, _%_, _^_, _<_, _≤_}
 use native.Mathlib.Nat.{lt-of-lt-of-le}
 use native.Mathlib.Omega.{arith}
-use borrow.Author.Tests.{eq-eqb, ne-eqb, eqb-true, eqb-false, lt-ltb, ltb-true, le-leb, leb-true, not-true}
+use borrow.Author.Tests.{eq-eqb, ne-eqb, eqb-true, eqb-false, ltb-true, le-leb, leb-true, not-true}
 use lib.Count.{ones, onesIn}
-use lib.Dec.{eqb, leb, ltb, lit<, lit≤}
+use lib.Dec.{eqb, leb, lit<, lit≤}
 use Rattle.bits.specs.Fields.{bits, digits}
 use Rattle.bits.specs.Laws.{both-true}
 use Rattle.bits.specs.Parity.{odd, ones-in}
@@ -18,7 +18,7 @@ use Rattle.frequencies.specs.declared.Band.{Band}
 use Rattle.records.specs.declared.Kind.{Kind}
 use Rattle.codes.specs.declared.Marker.{Marker}
 use Rattle.codes.specs.declared.Status.{Status}
-use Rattle.decode.specs.Rules.{Rules, rules, frequencyIn}
+use Rattle.decode.specs.Rules.{rules, frequencyIn}
 use Rattle.roundtrip.specs.Forth.{marker-listed}
 use Rattle.demands.specs.Holds.{bit, sum, number, DecimalStatus, MarkerIs, SentAs, MlsIs}
 use Rattle.demands.specs.HoldsLemmas.{sum-digits, field-lt, status-bits, marker-is, decimal-only, tens-sent, never-two, mls-only, mls-holds}

@@ -19,9 +19,9 @@ use Rattle.labels.specs.declared.Lookup.{Lookup}
 use Rattle.decode.specs.Rules.{bodyOf}
 use Rattle.decode.specs.Decode.{recordOf, decodeWith}
 use Rattle.decode.specs.declared.Decoded.{Decoded}
-use Rattle.encode.specs.Encode.{codesListed, valuesLegal, wordOf, encodeWith, codes-broken, values-broken, all-legal}
+use Rattle.encode.specs.Encode.{codesListed, wordOf, encodeWith, codes-broken, values-broken, all-legal}
 use Rattle.encode.specs.declared.Encoded.{Encoded}
-use Rattle.roundtrip.specs.Reading.{Reads, accepted}
+use Rattle.roundtrip.specs.Reading.{accepted}
 use Rattle.roundtrip.specs.RoundTrip.{Written, written, decode-encode, encode-decode}
 use Rattle.readings.specs.Readings.{readingOf}
 use Rattle.readings.specs.Meaning.{HasReading, IsTest, reading-exactly, test-exactly}

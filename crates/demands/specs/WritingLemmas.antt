@@ -1,14 +1,14 @@
 -- Each test that encoding makes says just what a legal record is.
 -- Assumes nothing.
-use mathlib.Core.Path.{_≡_, refl, sym, ap, ap₂, _∙_}
-use mathlib.Core.Bool.{Bool, true, false, _&&_, true≢false}
+use mathlib.Core.Path.{_≡_, refl, sym, ap, _∙_}
+use mathlib.Core.Bool.{true, false, _&&_, true≢false}
 use mathlib.Core.Logic.{_↔_, _≢_}
-use Prim.Native.Nat.{ℕ, suc, _≤_, _<_}
+use Prim.Native.Nat.{ℕ, suc, _≤_}
 use native.Mathlib.Omega.{arith}
-use borrow.Author.Tests.{le-leb, leb-true, lt-ltb, ltb-true}
-use lib.Dec.{T, leb, ltb, le→leb, leb→le}
+use borrow.Author.Tests.{lt-ltb, ltb-true}
+use lib.Dec.{leb, ltb, le→leb, leb→le}
 use lib.IntN.{ℤ, pos, negsuc}
-use lib.Signed.{mag, leZ, _≤ℤ_}
+use lib.Signed.{mag, _≤ℤ_}
 use Rattle.codes.specs.Codes.{decimalCode, decimalListed}
 use Rattle.records.specs.declared.Body.{Body}
 use Rattle.records.specs.declared.Record.{Record}

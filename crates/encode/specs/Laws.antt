@@ -1,19 +1,18 @@
 -- What a legal body writes fits its layout, so that the word has 32 bits.
 -- Assumes nothing.
-use mathlib.Core.Path.{_≡_, refl, sym, ap, _∙_, subst}
-use mathlib.Core.Bool.{Bool, true, false, cond, _&&_}
-use mathlib.Core.List.{List, [], _∷_, _++_}
-use Prim.Native.Nat.{ℕ, _+_, _*_, _/_, _%_, _^_, _<_, _≤_}
-use native.Mathlib.Nat.{mod-lt}
+use mathlib.Core.Path.{_≡_, refl, subst}
+use mathlib.Core.Bool.{true}
+use mathlib.Core.List.{[], _∷_, _++_}
+use Prim.Native.Nat.{ℕ, _+_, _*_, _/_, _%_, _^_, _<_}
 use native.Mathlib.Omega.{arith}
 use borrow.Author.Tests.{leb-true}
 use lib.Dec.{leb, lit<}
-use Rattle.bits.specs.Layout.{Segment, field, Fit, join, size}
+use Rattle.bits.specs.Layout.{Fit, size}
 use Rattle.bits.specs.Laws.{both-true, join-lt}
 use Rattle.bits.specs.Complement.{complement-lt}
-use Rattle.bits.specs.Parity.{withParity, parity-lt}
+use Rattle.bits.specs.Parity.{parity-lt}
 use Rattle.codes.specs.Codes.{binary-lt, decimal-lt, marker-lt, category-lt, flag-lt}
-use Rattle.frequencies.specs.Frequencies.{legalFrequency, tensCode, tens-code-lt}
+use Rattle.frequencies.specs.Frequencies.{tens-code-lt}
 use Rattle.records.specs.All.{agree}
 use Rattle.records.specs.Kinds.{kindOf}
 use Rattle.records.specs.Layouts.{upperLayout}
@@ -22,9 +21,8 @@ use Rattle.records.specs.declared.Body.{Body}
 use Rattle.records.specs.declared.Kind.{Kind}
 use Rattle.records.specs.declared.Record.{Record}
 use Rattle.labels.specs.Label.{labelOf, label-lt}
-use Rattle.labels.specs.Assignment.{Assignment}
 use Rattle.encode.specs.Fields.{fieldsOf, statusBits}
-use Rattle.encode.specs.Encode.{valuesLegal, upperBits, lowerAs, lowerBits}
+use Rattle.encode.specs.Encode.{valuesLegal, upperBits, lowerAs}
 
 below : (n k : ℕ) → leb n k ≡ true → n < k + 1
 below n k e = omega (arith, leb-true n k e)

@@ -3,24 +3,22 @@
 use mathlib.Core.Path.{_≡_, refl, sym, _∙_}
 use mathlib.Core.Bool.{Bool, true, false, cond}
 use mathlib.Core.List.{List, [], _∷_, _++_}
-use Prim.Native.Nat.{ℕ, suc, _+_, _*_, _-_, _/_, _%_, _^_, _≤_, _<_, zero-le}
+use Prim.Native.Nat.{ℕ, _+_, _*_, _-_, _^_, _≤_, _<_, zero-le}
 use native.Mathlib.Omega.{arith}
 use borrow.Author.Tests.{eqb-true, le-ltb, ltb-true, ltb-false}
 use lib.Dec.{eqb, ltb}
-use lib.IntN.{ℤ, pos, negsuc, natAbs}
+use lib.IntN.{pos, negsuc, natAbs}
 use lib.ListN.{length, drop, getD, length-append}
 use Rattle.bits.specs.Complement.{signed}
 use Rattle.refusals.specs.declared.Refusal.{Refusal}
 use Rattle.fields.specs.declared.FieldKind.{FieldKind}
-use Rattle.fields.specs.Start.{tagOf}
 use Rattle.fields.specs.Run.{Field, Scan, Fields, Refused, sheetOf}
 use Rattle.fields.specs.Limits.{Placed, Every, nothing, _also_, longer, sheet-fields}
 use Rattle.contents.specs.declared.FigureIn.{FigureIn}
 use Rattle.contents.specs.BigEndian.{valueOf}
-use Rattle.contents.specs.Contents.{figureIn}
 use Rattle.text.specs.Ascii.{ascii}
 use Rattle.text.specs.Writing.{last}
-use Rattle.numerals.specs.Digits.{decimal, octal3, signedFixed}
+use Rattle.numerals.specs.Digits.{octal3, signedFixed}
 use Rattle.numerals.specs.Theorems.{decimal-length, padded-length, signed-length}
 use Rattle.lines.specs.Lengths.{refusal-line-length}
 use Rattle.listing.specs.Size.{own, owned, fields-owned, refusal-short}

@@ -1,7 +1,7 @@
 -- One run after another: nothing before or after it changes a run, and three are joined in either grouping.
 -- Assumes nothing.
 use mathlib.Core.Path.{_≡_, refl, ap}
-use mathlib.Core.List.{List, [], append-nil, append-assoc}
+use mathlib.Core.List.{[], append-nil, append-assoc}
 use Rattle.fields.specs.Run.{Scan, Fields, Refused, _andThen_}
 
 pub nothing-first : (r : Scan) → Fields [] andThen r ≡ r

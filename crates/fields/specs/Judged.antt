@@ -1,6 +1,6 @@
 -- Every sheet of bytes follows its rules (`Rules`): it is refused with exactly what they refuse it with, at that offset, and has fields exactly when legal fields wrote it.
 -- Assumes nothing.
-use mathlib.Core.Path.{_≡_, refl, sym, ap, ap₂, _∙_}
+use mathlib.Core.Path.{_≡_, refl, sym, ap, _∙_}
 use mathlib.Core.Bool.{Bool, true, false, cond}
 use mathlib.Core.List.{List, [], _∷_}
 use Prim.Native.Nat.{ℕ, _≤_, _<_}
@@ -10,10 +10,10 @@ use lib.Dec.{ltb}
 use lib.ListN.{length}
 use Rattle.refusals.specs.Order.{Follows, kept-first, broken-first, kept-one, broken-one, no-rules}
 use Rattle.refusals.specs.declared.Refusal.{Refusal}
-use Rattle.fields.specs.Run.{Field, Scan, Fields, Refused, sheetLimit, runOf, sheetOf, insideOf}
+use Rattle.fields.specs.Run.{Scan, Fields, Refused, sheetLimit, runOf, sheetOf, insideOf}
 use Rattle.fields.specs.Grammar.{fieldsOf, Bytes, written-legal, legal-written}
 use Rattle.fields.specs.Answers.{never, same-refusal, scanned}
-use Rattle.fields.specs.Rules.{RefusedAt, Written, runRule, sheetRules, insideRules}
+use Rattle.fields.specs.Rules.{RefusedAt, runRule, sheetRules, insideRules}
 use Rattle.fields.specs.RulesLemmas.{refused-so, refused-only-so}
 
 -- At most one refusal at one offset is given to a run.

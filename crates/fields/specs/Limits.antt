@@ -15,7 +15,7 @@ use Rattle.refusals.specs.Numbers.{numberOf}
 use Rattle.fields.specs.declared.FieldKind.{FieldKind}
 use Rattle.fields.specs.declared.Start.{Start}
 use Rattle.fields.specs.Start.{startOf}
-use Rattle.fields.specs.Run.{Field, Scan, Fields, Refused, _andThen_, inside, step, scan, runOf, sheetOf, insideOf}
+use Rattle.fields.specs.Run.{Field, Scan, Fields, Refused, _andThen_, inside, step, scan, runOf, sheetOf}
 use Rattle.fields.specs.Laws.{StartView, refused, start-view, WholeField, whole-field}
 
 -- ---- what is stated

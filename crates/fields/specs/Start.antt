@@ -1,6 +1,5 @@
 -- What stands at the start of a run of bytes: document 01's tags and lengths, and the refusals in its order, 9 (header cut), 10, 9 (content cut), 11, 12.
 -- Assumes nothing.
-use mathlib.Core.Path.{_≡_}
 use mathlib.Core.Bool.{Bool, true, false, cond, _||_}
 use mathlib.Core.List.{List, [], _∷_}
 use Prim.Native.Nat.{ℕ, _+_, _*_, _/_, _%_}

@@ -16,10 +16,11 @@ use Rattle.records.specs.declared.Record.{Record}
 use Rattle.labels.specs.declared.Lookup.{Lookup}
 use Rattle.decode.specs.declared.Decoded.{Decoded}
 use Rattle.encode.specs.Encode.{valuesLegal}
+use Rattle.roundtrip.specs.Forth.{marker-listed}
 use Rattle.flat_records.specs.Numbers.{flatBody, flatOf}
 use Rattle.flat_records.specs.declared.FlatRecord.{FlatRecord}
 use Rattle.flat_fields.specs.Fields.{kindAt, listed, isShort, fits, fieldsOf, bodyFrom, recordOfKind, recordFound, recordFrom, all-kept}
-use Rattle.flat_laws.specs.Codes.{status-listed, marker-listed, category-listed, flag-fits, status-of}
+use Rattle.flat_laws.specs.Codes.{status-listed, category-listed, flag-fits, status-of}
 
 -- the numbers of a body are those that its fields' types hold
 abbrev pub Bounded : Body → Type 0

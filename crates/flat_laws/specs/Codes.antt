@@ -8,10 +8,9 @@ use native.Mathlib.Omega.{arith}
 use borrow.Author.Tests.{eqb-true, leb-true}
 use lib.Dec.{eqb, leb}
 use Rattle.bits.specs.Laws.{both-true}
-use Rattle.codes.specs.Codes.{markerCode, markerListed, categoryCode, categoryOf, category-code, flagBit, flag-bit}
+use Rattle.codes.specs.Codes.{categoryCode, categoryOf, category-code, flagBit, flag-bit}
 use Rattle.codes.specs.declared.Category.{Category}
 use Rattle.records.specs.declared.Kind.{Kind}
-use Rattle.codes.specs.declared.Marker.{Marker}
 use Rattle.codes.specs.declared.Status.{Status}
 use Rattle.records.specs.All.{kinds, agree, placeOf}
 use Rattle.labels.specs.declared.Lookup.{Lookup}
@@ -25,12 +24,6 @@ status-listed Status.Failure = refl
 status-listed Status.NoData = refl
 status-listed Status.Test = refl
 status-listed Status.Ready = refl
-
-pub marker-listed : (m : Marker) → markerListed (markerCode m) ≡ true
-marker-listed Marker.None = refl
-marker-listed Marker.Outer = refl
-marker-listed Marker.Middle = refl
-marker-listed Marker.Inner = refl
 
 pub category-listed : (k : Category) → leb (categoryCode k) 3 ≡ true
 category-listed Category.NotStated = refl

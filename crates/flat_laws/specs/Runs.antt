@@ -1,12 +1,11 @@
 -- A run of words, each step taking the numbers that the step before gave, is answered as the reassembly answers it.
 -- Assumes nothing.
-use mathlib.Core.Path.{_≡_, refl, ap, ap₂, _∙_}
+use mathlib.Core.Path.{_≡_, refl, ap, _∙_}
 use mathlib.Core.List.{List, [], _∷_, map}
 use Prim.Native.Nat.{ℕ}
 use Rattle.reassembly.specs.Runs.{answers, after}
 use Rattle.reassembly.specs.Step.{takeWord}
 use Rattle.reassembly.specs.declared.Reassembler.{Reassembler}
-use Rattle.reassembly.specs.declared.WordAnswer.{WordAnswer}
 use Rattle.flat_reassembly.specs.Steps.{answered, heldBy, reassembled}
 use Rattle.flat_reassembly.specs.declared.FlatAnswer.{FlatAnswer}
 use Rattle.flat_reassembly.specs.declared.FlatStep.{FlatStep}

@@ -6,7 +6,6 @@ use Prim.Native.Nat.{ℕ, zero, suc, _<_}
 use native.Mathlib.Nat.{le-of-suc-le-suc, not-suc-le-zero}
 use lib.ListN.{getD, length}
 use Rattle.records.specs.declared.Kind.{Kind}
-use Rattle.labels.specs.declared.Lookup.{Lookup}
 use Rattle.labels.specs.declared.Lookup.the-variants.{Known}
 use Rattle.labels.specs.Table.{rows, labelNumber, findKind, found}
 

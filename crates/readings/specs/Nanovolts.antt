@@ -1,6 +1,6 @@
 -- Nanovolts are millionths of a millivolt: the MLS step is a whole number of them, so a count's reading is the figure printed for it, and nothing is rounded.
 -- Assumes nothing.
-use mathlib.Core.Path.{_≡_, ap, _∙_}
+use mathlib.Core.Path.{_≡_, ap}
 use Prim.Native.Nat.{ℕ, suc, _*_, _%_}
 use native.Mathlib.Nat.{div-one}
 use native.Mathlib.Omega.{arith}

@@ -15,7 +15,6 @@ use Rattle.reassembly_parts.specs.declared.Answer.{Answer}
 use Rattle.reassembly_parts.specs.declared.Group.{Group}
 use Rattle.reassembly_parts.specs.declared.Part.{Part}
 use Rattle.reassembly_parts.specs.declared.Part.the-variants.{One, Two, Three, Four}
-use Rattle.reassembly_parts.specs.declared.Reassembly.the-variants.{Empty}
 use Rattle.reassembly_parts.specs.Run.{Input, part, other, Reply, answered, own, groupOf, replyOf, nextOf, replies, heldAfter, others, firstThree, firstThreeAnswers, words-completed, nothing-held as parts-held}
 use Rattle.reassembly_parts.specs.Provenance.{CompletedBy, completed-only-by}
 use Rattle.reassembly.specs.declared.PartIn.{PartIn}

@@ -3,8 +3,7 @@
 use mathlib.Core.Path.{_≡_, refl, sym, ap, ap₂, _∙_}
 use mathlib.Core.Bool.{Bool, true, _&&_}
 use mathlib.Core.List.{List, [], _∷_, _++_}
-use Prim.Native.Nat.{ℕ, _-_, _/_, _%_, _^_, _<_, _≤_}
-use native.Mathlib.Nat.{mod-lt}
+use Prim.Native.Nat.{ℕ, _-_, _/_, _%_, _^_, _<_}
 use native.Mathlib.Omega.{arith}
 use borrow.Author.Tests.{le-leb, ltb-true, leb-true, eq-eqb}
 use lib.Dec.{eqb, leb, ltb, lit<}
@@ -15,20 +14,19 @@ use lib.Signed.{mag}
 use Rattle.bits.specs.Fields.{bits, digits}
 use Rattle.bits.specs.Layout.{split}
 use Rattle.bits.specs.Complement.{signed, complement, signed-complement}
-use Rattle.bits.specs.Parity.{odd, withParity, parityBit, parity-odd}
-use Rattle.codes.specs.Codes.{binaryStatus, binaryCode, binary-status, decimalStatus, decimalCode, decimalListed, decimal-status, markerOf, markerCode, markerListed, marker-of, categoryOf, categoryCode, category-of, flagBit, flag-of}
-use Rattle.frequencies.specs.Frequencies.{tensCode, tensListed, frequencyOf, legalFrequency}
+use Rattle.bits.specs.Parity.{odd, parityBit, parity-odd}
+use Rattle.codes.specs.Codes.{binaryStatus, binaryCode, binary-status, decimalStatus, decimalCode, decimalListed, decimal-status, markerOf, markerCode, markerListed, marker-of, categoryOf, category-of, flagBit, flag-of}
+use Rattle.frequencies.specs.Frequencies.{tensCode, legalFrequency}
 use Rattle.records.specs.Kinds.{kindOf}
 use Rattle.records.specs.Layouts.{wordLayout}
 use Rattle.frequencies.specs.declared.Band.{Band}
 use Rattle.records.specs.declared.Body.{Body}
-use Rattle.records.specs.declared.Kind.{Kind}
 use Rattle.codes.specs.declared.Marker.{Marker}
 use Rattle.codes.specs.declared.Marker.the-variants.{None, Outer, Middle, Inner}
 use Rattle.codes.specs.declared.Status.{Status}
 use Rattle.decode.specs.Rules.{Rules, rules, decimal, frequencyIn, bodyOf}
 use Rattle.encode.specs.Fields.{fieldsOf, statusBits}
-use Rattle.encode.specs.Encode.{codesListed, narrow, wide, valuesLegal}
+use Rattle.encode.specs.Encode.{codesListed, valuesLegal}
 use Rattle.roundtrip.specs.Digits.{frequency-back, tens-code-listed}
 use Rattle.roundtrip.specs.Reading.{Kept}
 

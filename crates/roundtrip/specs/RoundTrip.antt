@@ -3,26 +3,24 @@
 use mathlib.Core.Path.{_≡_, refl, sym, ap, ap₂, _∙_, subst}
 use mathlib.Core.Bool.{Bool, true, false, cond, _&&_}
 use mathlib.Core.List.{List, [], _∷_, _++_}
-use Prim.Native.Nat.{ℕ, _+_, _*_, _/_, _%_, _^_, _<_, _≤_}
+use Prim.Native.Nat.{ℕ, _+_, _*_, _/_, _%_, _^_, _<_}
 use native.Mathlib.Nat.{mod-lt, div-one}
 use native.Mathlib.Omega.{arith}
 use borrow.Author.Tests.{le-leb, leb-true}
-use lib.Dec.{T, leb, lit<}
+use lib.Dec.{leb, lit<}
 use lib.Pow.{pow-pos}
-use Rattle.bits.specs.Fields.{bits, digits}
-use Rattle.bits.specs.Layout.{field, split, join, size, clear, Clear, Fit, contiguous}
+use Rattle.bits.specs.Fields.{bits}
+use Rattle.bits.specs.Layout.{field, split, join, size, clear, Clear, Fit}
 use Rattle.bits.specs.Laws.{both-true, join-split, split-join, clear-test, split-last, clear-last, contiguous-last, size-last, fit-last, join-last}
 use Rattle.bits.specs.Parity.{withParity, parityBit, parity-only, parity-odd, parity-lt}
 use Rattle.records.specs.Kinds.{kindOf}
-use Rattle.records.specs.Layouts.{layout, upperLayout, lowerLayout, wordLayout, whole, whole-size}
-use Rattle.records.specs.declared.Body.{Body}
+use Rattle.records.specs.Layouts.{layout, lowerLayout, wordLayout, whole, whole-size}
 use Rattle.records.specs.declared.Kind.{Kind}
 use Rattle.records.specs.declared.Record.{Record}
 use Rattle.refusals.specs.declared.Refusal.{Refusal}
 use Rattle.labels.specs.Label.{labelOf, label-low, label-byte, label-twice, label-lt}
 use Rattle.labels.specs.Assignment.{Assignment}
 use Rattle.labels.specs.declared.Lookup.{Lookup}
-use Rattle.decode.specs.Rules.{rules, bodyOf}
 use Rattle.decode.specs.Decode.{recordOf, decodeAs, decodeWith}
 use Rattle.decode.specs.declared.Decoded.{Decoded}
 use Rattle.encode.specs.Fields.{fieldsOf, statusBits}
@@ -30,8 +28,8 @@ use Rattle.encode.specs.Encode.{codesListed, valuesLegal, lowerAs, wordAs, word
 use Rattle.encode.specs.Laws.{fields-fit, lower-lt}
 use Rattle.encode.specs.declared.Encoded.{Encoded}
 use Rattle.roundtrip.specs.Reading.{ReadsAs, accepts, accepted-as}
-use Rattle.roundtrip.specs.Back.{Writes, back}
-use Rattle.roundtrip.specs.Forth.{Holds, at, forth}
+use Rattle.roundtrip.specs.Back.{back}
+use Rattle.roundtrip.specs.Forth.{at, forth}
 
 -- ---- a word, decoded and encoded
 

@@ -1,6 +1,6 @@
 -- What a line of the test vectors says of a word: the number of its refusal, 0 where it is accepted, and its count, 0 where it has none.
 -- Assumes nothing.
-use mathlib.Core.Bool.{Bool, true, false, not, _&&_}
+use mathlib.Core.Bool.{Bool, not, _&&_}
 use Prim.Native.Nat.{ℕ, suc}
 use lib.Dec.{eqb}
 use lib.IntN.{ℤ, pos, negsuc}

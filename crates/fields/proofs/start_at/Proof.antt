@@ -1,7 +1,7 @@
 -- The three tests of the header are those of its bytes (specs/HeaderLemmas.antt).
 -- Assumes nothing.
 use mathlib.Core.Path.{sym, ap, _∙_}
-use Prim.Native.Nat.{ℕ, _+_, _*_, _-_}
+use Prim.Native.Nat.{_+_, _*_, _-_}
 use native.Mathlib.Omega.{arith}
 use lib.ListN.{length, getD}
 use Rattle.fields.specs.declared.TagLookup.{TagLookup}
