@@ -4,7 +4,7 @@ use mathlib.Core.Path.{_≡_, refl, sym, ap, ap₂, subst⁻¹, _∙_}
 use mathlib.Core.Bool.{Bool, true, false, cond}
 use mathlib.Core.List.{List, [], _∷_}
 use mathlib.Core.Logic.{_⊎_, inl, inr}
-use Prim.Native.Nat.{ℕ, zero, suc, _+_, _*_, _≤_, _<_}
+use Prim.Native.Nat.{ℕ, suc, _+_, _*_, _≤_, _<_}
 use native.Mathlib.Nat.{le-refl}
 use native.Mathlib.Omega.{arith}
 use borrow.Author.Tests.{ltb-true, ltb-false}
@@ -15,7 +15,7 @@ use Rattle.refusals.specs.Order.{Follows, no-rules, kept-first, broken-first}
 use Rattle.refusals.specs.declared.Refusal.{Refusal}
 use Rattle.fields.specs.declared.Start.{Start}
 use Rattle.fields.specs.declared.TagLookup.{TagLookup}
-use Rattle.fields.specs.Grammar.{fieldsOf, Bytes, no-byte, byte, written-legal, legal-written}
+use Rattle.fields.specs.Grammar.{fieldsOf, Bytes, bytes-take, bytes-drop, written-legal, legal-written}
 use Rattle.fields.specs.Answers.{scanned, never}
 use Rattle.fields.specs.Laws.{StartView, at-end, refused, header, start-view, run-step}
 use Rattle.fields.specs.Rules.{lengthIn}
@@ -26,18 +26,6 @@ use Rattle.sheet.specs.Checked.{checkedOf, afterInside, fieldFrom, fieldOf}
 use Rattle.sheet.specs.declared.FieldChecked.{FieldChecked}
 use Rattle.demands.specs.ChainedLemmas.{chained}
 use Rattle.demands.specs.EntryRules.{ownBytes, topFieldRules, passed}
-
--- ---- the bytes of a part
-
-bytes-take : (n : ℕ) {bs : List ℕ} → Bytes bs → Bytes (take n bs)
-bytes-take zero b = no-byte
-bytes-take (suc n) no-byte = no-byte
-bytes-take (suc n) (byte h b) = byte h (bytes-take n b)
-
-bytes-drop : (n : ℕ) {bs : List ℕ} → Bytes bs → Bytes (drop n bs)
-bytes-drop zero b = b
-bytes-drop (suc n) no-byte = no-byte
-bytes-drop (suc n) (byte h b) = bytes-drop n b
 
 -- ---- the field's own bytes start as what is left of the sheet does
 

@@ -134,12 +134,12 @@ written-bytes d (group us ts) (group-allowed deep short inner rest) =
 
 -- ---- a legal run is written by such a list
 
-bytes-take : (n : ℕ) {bs : List ℕ} → Bytes bs → Bytes (take n bs)
+pub bytes-take : (n : ℕ) {bs : List ℕ} → Bytes bs → Bytes (take n bs)
 bytes-take zero b = no-byte
 bytes-take (suc n) no-byte = no-byte
 bytes-take (suc n) (byte h b) = byte h (bytes-take n b)
 
-bytes-drop : (n : ℕ) {bs : List ℕ} → Bytes bs → Bytes (drop n bs)
+pub bytes-drop : (n : ℕ) {bs : List ℕ} → Bytes bs → Bytes (drop n bs)
 bytes-drop zero b = b
 bytes-drop (suc n) no-byte = no-byte
 bytes-drop (suc n) (byte h b) = bytes-drop n b

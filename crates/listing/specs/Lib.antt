@@ -5,3 +5,4 @@ pub mod Turn
 pub mod TurnLemmas
 pub mod LoopLemmas
 pub mod BufferLemmas
+pub mod WholeLemmas
