@@ -4,6 +4,14 @@
 VERSION = 0.1.0
 PREFIX = /usr/local
 
+# The prover makes and removes thousands of small files in each check: unless TMPDIR says where, they stand in memory, if there is room (the gate then takes a fifth less time).
+ifeq ($(origin TMPDIR), undefined)
+scratch := $(shell tests/scratch/run)
+ifneq ($(scratch),)
+export TMPDIR := $(scratch)
+endif
+endif
+
 # Lists the example sheet.
 demo: programs
 	@./target/bin/list < examples/flight.sheet
