@@ -63,10 +63,10 @@ fn put_line(out: &mut [u8], at: usize, sheet: &[u8], field: FieldAt) -> usize
 fn put_lines(out: &mut [u8], sheet: &[u8]) -> usize
     ensures { λ r. ⌜ Writes (now (out .entry)) 0 (textOf (now (sheet .entry))) (now (out .exit)) r ⌝ }
 {
-    let mut walk = walk::start(sheet);
+    let mut walk = walker::start(sheet);
     let mut at = 0;
     loop {
-        let step = walk::step(sheet, walk);
+        let step = walker::step(sheet, walk);
         let given = step.given;
         match given {
             Given::Field(field) => {

@@ -153,12 +153,12 @@ fn flat_step(step: WalkStep) -> FlatWalked
 pub fn start_flat(sheet: &[u8]) -> FlatWalk
     ensures { λ r. ⌜ r ≡ flatWalk (startWalk (now (sheet .entry))) ⌝ }
 {
-    flat_walk(walk::start(sheet))
+    flat_walk(walker::start(sheet))
 }
 
 // One step of the walk that numbers stand for.
 pub fn step_flat(sheet: &[u8], walk: FlatWalk) -> FlatWalked
     ensures { λ r. ⌜ r ≡ stepped (now (sheet .entry)) walk ⌝ }
 {
-    flat_step(walk::step(sheet, walk_from(walk)))
+    flat_step(walker::step(sheet, walk_from(walk)))
 }

@@ -127,7 +127,7 @@ fn put_field(out: &mut [u8], sheet: &[u8], progress: Progress, field: FieldAt) -
 fn put_listing(out: &mut [u8], sheet: &[u8]) -> usize
     ensures { λ r. ⌜ Writes (now (out .entry)) 0 (textOf (now (sheet .entry))) (now (out .exit)) r ⌝ }
 {
-    let mut walk = walk::start(sheet);
+    let mut walk = walker::start(sheet);
     let mut progress = Progress {
         at: 0,
         before: Before::Nothing,
@@ -135,7 +135,7 @@ fn put_listing(out: &mut [u8], sheet: &[u8]) -> usize
         refused: 0,
     };
     loop {
-        let step = walk::step(sheet, walk);
+        let step = walker::step(sheet, walk);
         let given = step.given;
         match given {
             Given::Field(field) => {

@@ -47,9 +47,9 @@ fn is_note_at(field: FieldAt, place: usize) -> bool
 pub fn find_note(sheet: &[u8], place: usize) -> NoteFound
     ensures { λ r. ⌜ r ≡ foundOf place (noteOf (sheetOf (now (sheet .entry))) place) ⌝ }
 {
-    let mut at = walk::start(sheet);
+    let mut at = walker::start(sheet);
     loop {
-        let step = walk::step(sheet, at);
+        let step = walker::step(sheet, at);
         let given = step.given;
         match given {
             Given::End => {

@@ -19,7 +19,7 @@ pub struct Reader<'a> {
 fn given_of(sheet: &[u8], walk: Walk) -> Given
     ensures { λ r. ⌜ r ≡ stepOf (now (sheet .entry)) walk .given ⌝ }
 {
-    let step = walk::step(sheet, walk);
+    let step = walker::step(sheet, walk);
     step.given
 }
 
@@ -41,7 +41,7 @@ fn walk_past(sheet: &[u8], walk: Walk, count: usize) -> Walk
     let mut at = walk;
     let mut left = count;
     while 0 < left {
-        let step = walk::step(sheet, at);
+        let step = walker::step(sheet, at);
         let given = step.given;
         if !is_field(given) {
             return at;
@@ -56,7 +56,7 @@ fn walk_past(sheet: &[u8], walk: Walk, count: usize) -> Walk
 pub fn new<'a>(sheet: &'a [u8]) -> Reader<'a>
     ensures { λ r. ⌜ (r .sheet ≡ sheet .entry) × (r .at ≡ startWalk (now (sheet .entry))) ⌝ }
 {
-    let at = walk::start(sheet);
+    let at = walker::start(sheet);
     Reader { sheet, at }
 }
 

@@ -42,7 +42,7 @@ fn check_field(run: &[u8], at: usize, offset: usize, depths: u8) -> FieldChecked
     ensures { λ r. ⌜ r ≡ fieldOf (4 - depths) offset at (now (run .entry)) ⌝ }
 {
     let place = offset + at;
-    match fields::start_at(run, at, 4 - depths) {
+    match field_headers::start_at(run, at, 4 - depths) {
         Start::End => FieldChecked::End,
         Start::Refused(refusal) => FieldChecked::Refused(refusal, place),
         Start::Field(kind, length) => {

@@ -36,10 +36,10 @@ use Rattle.walk.specs.Step.{startWalk}
 use Rattle.walk.specs.declared.Walk.{Walk}
 use Rattle.walk.proofs.Walk as K
 use Rattle.walk.proofs.Walk.Laws as K′
-use Rattle.walk.proofs.start as start
-use Rattle.walk.proofs.start.Symbol as start-def
-use Rattle.walk.proofs.start.Symbol.{name as #walk·start}
-use Rattle.walk.proofs.start.Met as start-thm
+use Rattle.walker.proofs.start as start
+use Rattle.walker.proofs.start.Symbol as start-def
+use Rattle.walker.proofs.start.Symbol.{name as #walker·start}
+use Rattle.walker.proofs.start.Met as start-thm
 use Rattle.reader.specs.declared.Reader.{Reader}
 use Rattle.reader.proofs.Thin.{asks, frames, closes}
 use Rattle.reader.proofs.Held.{sheetVal, mach, OwnSheet, OwnWalk, token, passed-sheet, apart-sheet, shut, reader-typed, made-is, walk-tells, walk-is}
@@ -73,7 +73,7 @@ module _ {M : Type 1} (𝓤 : URA M) (H : Heap 𝓤) (A : Atoms 𝓤) (W : Rules
       move ! (1 ∷ []) $ frame ! $ move ! (1 ∷ []) $ use1 W (‵ (OwnSheet κ s) ⊛ ‵ (OwnSheet κ s)) (shr-slice-copy 𝓤 H A W (named 0) κ u8 .twice s (sheetVal s ∷ [])) $ split ! $
       nothing ! $ move ! (2 ∷ 0 ∷ []) $ fjoin ! $ frame ! $ by ! (shut 𝓤 H A W κ (made r))
 
-  walk : (C : Calls 𝓤 H) (Λ : Loops 𝓤 H) → FmC 𝓤 H (W .laws) C → Triple 𝓤 (C #walk·start) (Start 𝓤 H A mem run) → Is (ShrSlice (named 0) κ u8) s (sheetVal s ∷ [])
+  walk : (C : Calls 𝓤 H) (Λ : Loops 𝓤 H) → FmC 𝓤 H (W .laws) C → Triple 𝓤 (C #walker·start) (Start 𝓤 H A mem run) → Is (ShrSlice (named 0) κ u8) s (sheetVal s ∷ [])
       → ent 𝓤 (onEntry 𝓤 H A new.signature (κ, tt) (q, tt) (s, tt) (sheetVal s ∷ [], tt)) (WpFn 𝓤 H C Λ code.function (sheetVal s ∷ []) Post)
   walk C Λ fm known is =
       qed W (raw (onEntry 𝓤 H A new.signature (κ, tt) (q, tt) (s, tt) (sheetVal s ∷ [], tt)) ∷ []) ∵ enter ! C Λ code.function (sheetVal s ∷ []) _ $
@@ -96,4 +96,4 @@ new-spec 𝓤 H 𝓜 𝓖 𝓡 =
     closes 𝓤 H 𝓜 𝓖 𝓡 code.env new.ended stayed (new.clauses 𝓤 H (𝓖 .A) (𝓜 .mem) (𝓡 .run)) (goes-none-slice 𝓤 H (𝓖 .A) (givenOf 𝓤 H 𝓜 𝓖) 1 (0 ∷ []) tt (plain (λ _. u8)) yes, tt)
     (λ κs. (slice-vals, tt)) (λ κs. (shr-slice-tells (named 0) (κs .0) u8, tt)) #reader·new code.function (code.unfolded 𝓤 H 𝓜 𝓡)
     (λ κs qs bounds a g are. walk 𝓤 H (𝓖 .A) (givenOf 𝓤 H 𝓜 𝓖) (𝓜 .mem) (𝓡 .run) (κs .0) (qs .0) (a .0) _ _ (frames 𝓤 H 𝓜 𝓖 𝓡 code.env)
-    (cited 𝓤 H (Start 𝓤 H (𝓖 .A) (𝓜 .mem) (𝓡 .run)) 𝓜 𝓡 code.env #walk·start start-def.routine code.calls-walk·start (start-thm.met 𝓤 H 𝓜 𝓖 𝓡)) (are .0))
+    (cited 𝓤 H (Start 𝓤 H (𝓖 .A) (𝓜 .mem) (𝓡 .run)) 𝓜 𝓡 code.env #walker·start start-def.routine code.calls-walker·start (start-thm.met 𝓤 H 𝓜 𝓖 𝓡)) (are .0))

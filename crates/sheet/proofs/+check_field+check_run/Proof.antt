@@ -22,7 +22,7 @@ use Rattle.sheet.proofs.+check_field+check_run.Lts-check_field as check
 use Rattle.sheet.proofs.check_run.Reads as check-run
 use Rattle.sheet.proofs.check_run.Kinds as check-run-kinds
 use Rattle.sheet.proofs.+check_field+check_run.Lts-check_run as check-run-lts
-use Rattle.fields.proofs.start_at.Reads as start-at
+use Rattle.field_headers.proofs.start_at.Reads as start-at
 use Rattle.sheet.proofs.after_inside.Reads as after-inside
 use Rattle.sheet.proofs.+check_field+check_run.{statement}
 use Rattle.sheet.proofs.+check_field+check_run.Tie.{close}
