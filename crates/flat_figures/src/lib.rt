@@ -19,7 +19,7 @@ pub struct FlatMillionths {
 pub fn code_flat(label: u32, source: u32, millionths: i64) -> FlatWord
     ensures { λ r. ⌜ r ≡ flatWord (codedOf label source millionths) ⌝ }
 {
-    flat_words::flat_word(figures::code_figure(label as u64, source as u64, millionths))
+    flat_words::flat_word(coder::code_figure(label as u64, source as u64, millionths))
 }
 
 // Whether a count has 13 bits.
@@ -76,7 +76,7 @@ fn printed(quantity: Quantity, count: i64) -> FlatMillionths
 pub fn print_count_flat(label: u32, count: i64) -> FlatMillionths
     ensures { λ r. ⌜ r ≡ printedOf label count ⌝ }
 {
-    match figures::find_quantity(label as u64) {
+    match coder::find_quantity(label as u64) {
         Measured::As(quantity) => printed(quantity, count),
         Measured::Nothing => refused(2),
     }

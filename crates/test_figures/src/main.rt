@@ -26,7 +26,7 @@ fn is_right(expected: Expected) -> bool
 {
     let answer = expected.answer;
     let millionths = expected.millionths;
-    match figures::code_figure(expected.label, expected.source, millionths) {
+    match coder::code_figure(expected.label, expected.source, millionths) {
         Encoded::Word(word) => {
             (answer.refusal == 0)
                 & ((word as u64 == answer.word) & agreements::agrees(word, millionths))

@@ -7,11 +7,11 @@ use mir.Syntax.{w16}
 use mir.Facts.{toZ-ofZ}
 use Rattle.quantities.specs.Nearest.{nearestCount}
 use Rattle.quantities.specs.declared.Nearest.{Nearest}
 use Rattle.figures.specs.Coding.{codedNearest}
 use Rattle.figures.specs.Words.{legal-source, illegal-source}
 use Rattle.encode.specs.declared.Encoded.{Encoded}
-use Rattle.figures.proofs.code_quantity.Statement.{statement}
-use Rattle.figures.proofs.code_quantity.Tie as tie
+use Rattle.coder.proofs.code_quantity.Statement.{statement}
+use Rattle.coder.proofs.code_quantity.Tie as tie
 
 returns : tie.Need-returns
 returns c = sym (illegal-source (c .before .args .quantity) (c .before .args .label) (c .before .args .source) (c .before .args .millionths) (search needs))

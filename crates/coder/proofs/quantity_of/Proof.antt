@@ -8,10 +8,10 @@ use denote.Enum.Declared.{tagOf}
 use types.Run.{OneOf, miss}
 use Rattle.records.proofs.Kind as T
 use Rattle.records.specs.declared.Kind.{Kind}
 use Rattle.figures.specs.Coding.{quantityOf}
 use Rattle.figures.specs.declared.Measured.{Measured}
-use Rattle.figures.proofs.quantity_of.Statement.{statement}
-use Rattle.figures.proofs.quantity_of.Tie as tie
+use Rattle.coder.proofs.quantity_of.Statement.{statement}
+use Rattle.coder.proofs.quantity_of.Tie as tie
 
 -- the kinds that are not named
 abbrev others : List ℕ

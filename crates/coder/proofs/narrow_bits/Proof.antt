@@ -5,8 +5,8 @@ use native.Mathlib.Omega.{arith}
 use borrow.Author.Needs.{needs}
 use mir.Facts.{toZ-ofZ}
 use Rattle.bits.specs.Complement.{complement}
-use Rattle.figures.proofs.narrow_bits.Statement.{statement}
-use Rattle.figures.proofs.narrow_bits.Tie as tie
+use Rattle.coder.proofs.narrow_bits.Statement.{statement}
+use Rattle.coder.proofs.narrow_bits.Tie as tie
 
 mul-result : tie.Need-mul-result
 mul-result c = search needs

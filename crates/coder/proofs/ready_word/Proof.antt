@@ -7,9 +7,9 @@ use borrow.Author.Needs.{needs}
 use mir.Facts.{toZ-ofZ}
 use Rattle.bits.specs.Parity.{withParity}
 use Rattle.labels.specs.Label.{label-lt}
 use Rattle.figures.specs.Ready.{readyBits, ready-small, ready-lower}
-use Rattle.figures.proofs.ready_word.Statement.{statement}
-use Rattle.figures.proofs.ready_word.Tie as tie
+use Rattle.coder.proofs.ready_word.Statement.{statement}
+use Rattle.coder.proofs.ready_word.Tie as tie
 
 -- bits 11 to 31
 upper-is : (c : tie.After-ready-bits) → c .ready-bits .result ≡ readyBits (c .before .args .quantity) (c .before .args .count)

@@ -3,10 +3,10 @@
 use mathlib.Core.Path.{sym, ap, _∙_}
 use borrow.Author.Needs.{needs}
 use Rattle.labels.specs.Assignment.{document01}
 use Rattle.figures.specs.Coding.{quantityFound}
 use Rattle.figures.specs.Words.{unknown}
-use Rattle.figures.proofs.find_quantity.Statement.{statement}
-use Rattle.figures.proofs.find_quantity.Tie as tie
+use Rattle.coder.proofs.find_quantity.Statement.{statement}
+use Rattle.coder.proofs.find_quantity.Tie as tie
 
 returns : tie.Need-returns
 returns c = ap quantityFound (sym (unknown document01 (c .before .args .label) (c .if1 .taken)))

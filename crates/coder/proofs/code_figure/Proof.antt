@@ -5,11 +5,11 @@ use native.Mathlib.Omega.{arith}
 use borrow.Author.Needs.{needs}
 use mir.Facts.{toZ-ofZ}
 use Rattle.labels.specs.Assignment.{document01}
 use Rattle.figures.specs.declared.Measured.{Measured}
 use Rattle.figures.specs.Coding.{codedUnder, codedMeasured}
 use Rattle.figures.specs.Words.{measured-short}
-use Rattle.figures.proofs.code_figure.Statement.{statement}
-use Rattle.figures.proofs.code_figure.Tie as tie
+use Rattle.coder.proofs.code_figure.Statement.{statement}
+use Rattle.coder.proofs.code_figure.Tie as tie
 
 find-quantity-requires : tie.Need-find-quantity-requires
 find-quantity-requires c κs = search needs

@@ -7,9 +7,9 @@ use mir.Syntax.{w16}
 use mir.Val.{toZ, ofZ}
 use mir.Facts.{toZ-ofZ}
 use Rattle.quantities.specs.declared.Quantity.{Quantity}
 use Rattle.figures.specs.Ready.{readyBits}
-use Rattle.figures.proofs.ready_bits.Statement.{statement}
-use Rattle.figures.proofs.ready_bits.Tie as tie
+use Rattle.coder.proofs.ready_bits.Statement.{statement}
+use Rattle.coder.proofs.ready_bits.Tie as tie
 
 arm : (s : tie.Start) {q : Quantity} {r : ℕ} → s .args .quantity ≡ q → r ≡ readyBits q (toZ w16 (ofZ w16 (s .args .count))) → r ≡ readyBits (s .args .quantity) (s .args .count)
 arm s h e = e ∙ ap₂ readyBits (sym h) (toZ-ofZ (s .fits .count))

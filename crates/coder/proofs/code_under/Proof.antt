@@ -8,9 +8,9 @@ use mir.Val.{toZ, ofZ}
 use mir.Facts.{toZ-ofZ}
 use Rattle.encode.specs.declared.Encoded.{Encoded}
 use Rattle.quantities.specs.declared.Quantity.{Quantity}
 use Rattle.figures.specs.Coding.{codedUnder}
-use Rattle.figures.proofs.code_under.Statement.{statement}
-use Rattle.figures.proofs.code_under.Tie as tie
+use Rattle.coder.proofs.code_under.Statement.{statement}
+use Rattle.coder.proofs.code_under.Tie as tie
 
 arm : (s : tie.Start) {q : Quantity} {r : Encoded} → s .args .quantity ≡ q → r ≡ codedUnder q (s .args .label) (s .args .source) (toZ w64 (ofZ w64 (s .args .millionths))) → r ≡ codedUnder (s .args .quantity) (s .args .label) (s .args .source) (s .args .millionths)
 arm s h e = e ∙ ap₂ (λ (q : Quantity) (z : ℤ). codedUnder q (s .args .label) (s .args .source) z) (sym h) (toZ-ofZ (s .fits .millionths))
