@@ -15,12 +15,16 @@ use Rattle.codes.specs.declared.Status.{Status}
 use Rattle.records.specs.All.{kinds, agree}
 use Rattle.labels.specs.declared.Lookup.{Lookup}
 use Rattle.decode.specs.declared.Decoded.{Decoded}
-use Rattle.flat_fields.specs.declared.Fields.{Fields}
+use Rattle.flat_records.specs.Numbers.{numbers}
 use Rattle.flat_records.specs.declared.FlatRecord.{FlatRecord}
 
 -- the status of a number from 1 to 4: one more than its code in a binary word
 abbrev pub statusOf : ℕ → Status
 statusOf n = binaryStatus ((n + 3) % 4)
+
+-- a flag is on where its number is 1
+abbrev pub flagOf : ℕ → Bool
+flagOf n = eqb n 1
 
 -- the kind at a place of document 01's table
 abbrev pub kindIn : List Kind → ℕ → ℕ → Lookup
@@ -81,46 +85,27 @@ fits Kind.Part2 f = isShort (f .value)
 fits Kind.Part3 f = isShort (f .value)
 fits Kind.Part4 f = isFlag (f .«parity_good») && isShort (f .value)
 
--- what the numbers mean, for every kind; where they fit, the remainders are the value itself
-abbrev pub fieldsOf : FlatRecord → Fields
-fieldsOf f = record {
-  status = statusOf (f .status);
-  marker = markerOf (f .marker);
-  category = categoryOf (f .category);
-  azimuth = record { 0 = f .count };
-  course = record { 0 = f .count };
-  glide = record { 0 = f .count };
-  deviation = record { 0 = f .count };
-  inhibit = eqb (f .inhibit) 1;
-  clearance = eqb (f .clearance) 1;
-  manual = eqb (f .manual) 1;
-  «parity_good» = eqb (f .«parity_good») 1;
-  «word_number» = f .«word_number»;
-  frequency = f .value;
-  setting = f .value % 65536;
-  octet = f .value % 256;
-}
-
-abbrev pub bodyFrom : Kind → Fields → Body
-bodyFrom Kind.VorAzimuth f = Body.VorAzimuth (f .status) (f .marker) (f .azimuth)
-bodyFrom Kind.VorFrequency f = Body.VorFrequency (f .status) (f .frequency)
-bodyFrom Kind.IlsCourse f = Body.IlsCourse (f .status) (f .inhibit) (f .course)
-bodyFrom Kind.IlsGlide f = Body.IlsGlide (f .status) (f .inhibit) (f .glide)
-bodyFrom Kind.IlsFrequency f = Body.IlsFrequency (f .status) (f .category) (f .frequency)
-bodyFrom Kind.MlsFrequency f = Body.MlsFrequency (f .status) (f .frequency)
-bodyFrom Kind.MlsAzimuthDeviation f = Body.MlsAzimuthDeviation (f .status) (f .inhibit) (f .clearance) (f .deviation)
-bodyFrom Kind.MlsGlideDeviation f = Body.MlsGlideDeviation (f .status) (f .inhibit) (f .clearance) (f .deviation)
-bodyFrom Kind.SelectedAzimuth f = Body.SelectedAzimuth (f .status) (f .manual) (f .setting)
-bodyFrom Kind.GreatestGlideAngle f = Body.GreatestGlideAngle (f .status) (f .setting)
-bodyFrom Kind.SelectedGlideAngle f = Body.SelectedGlideAngle (f .status) (f .manual) (f .setting)
-bodyFrom Kind.Part1 f = Body.Part1 (f .«word_number») (f .octet)
-bodyFrom Kind.Part2 f = Body.Part2 (f .setting)
-bodyFrom Kind.Part3 f = Body.Part3 (f .setting)
-bodyFrom Kind.Part4 f = Body.Part4 (f .«parity_good») (f .setting)
+-- the body of a kind, from the fields that the kind has; where they fit, a remainder is the value itself
+abbrev pub bodyFrom : Kind → FlatRecord → Body
+bodyFrom Kind.VorAzimuth f = Body.VorAzimuth (statusOf (f .status)) (markerOf (f .marker)) (record { 0 = f .count })
+bodyFrom Kind.VorFrequency f = Body.VorFrequency (statusOf (f .status)) (f .value)
+bodyFrom Kind.IlsCourse f = Body.IlsCourse (statusOf (f .status)) (flagOf (f .inhibit)) (record { 0 = f .count })
+bodyFrom Kind.IlsGlide f = Body.IlsGlide (statusOf (f .status)) (flagOf (f .inhibit)) (record { 0 = f .count })
+bodyFrom Kind.IlsFrequency f = Body.IlsFrequency (statusOf (f .status)) (categoryOf (f .category)) (f .value)
+bodyFrom Kind.MlsFrequency f = Body.MlsFrequency (statusOf (f .status)) (f .value)
+bodyFrom Kind.MlsAzimuthDeviation f = Body.MlsAzimuthDeviation (statusOf (f .status)) (flagOf (f .inhibit)) (flagOf (f .clearance)) (record { 0 = f .count })
+bodyFrom Kind.MlsGlideDeviation f = Body.MlsGlideDeviation (statusOf (f .status)) (flagOf (f .inhibit)) (flagOf (f .clearance)) (record { 0 = f .count })
+bodyFrom Kind.SelectedAzimuth f = Body.SelectedAzimuth (statusOf (f .status)) (flagOf (f .manual)) (f .value % 65536)
+bodyFrom Kind.GreatestGlideAngle f = Body.GreatestGlideAngle (statusOf (f .status)) (f .value % 65536)
+bodyFrom Kind.SelectedGlideAngle f = Body.SelectedGlideAngle (statusOf (f .status)) (flagOf (f .manual)) (f .value % 65536)
+bodyFrom Kind.Part1 f = Body.Part1 (f .«word_number») (f .value % 256)
+bodyFrom Kind.Part2 f = Body.Part2 (f .value % 65536)
+bodyFrom Kind.Part3 f = Body.Part3 (f .value % 65536)
+bodyFrom Kind.Part4 f = Body.Part4 (flagOf (f .«parity_good»)) (f .value % 65536)
 
 -- the record of a known kind
 abbrev pub recordAs : Kind → FlatRecord → Record
-recordAs k f = record { source = f .source; body = bodyFrom k (fieldsOf f) }
+recordAs k f = record { source = f .source; body = bodyFrom k f }
 
 -- 4 before 6
 abbrev pub recordOfKind : Kind → FlatRecord → Decoded
@@ -152,21 +137,7 @@ all-kept k f c v = rw (c, v)
 
 -- the same numbers with every flag 0
 abbrev pub flagless : FlatRecord → FlatRecord
-flagless f = record {
-  refusal = f .refusal;
-  kind = f .kind;
-  source = f .source;
-  status = f .status;
-  marker = f .marker;
-  category = f .category;
-  inhibit = 0;
-  clearance = 0;
-  manual = 0;
-  «parity_good» = 0;
-  «word_number» = f .«word_number»;
-  count = f .count;
-  value = f .value;
-}
+flagless f = numbers (f .refusal, f .kind, f .source) (f .status, f .marker, f .category) (0, 0, 0, 0) (f .«word_number») (f .count) (f .value)
 
 -- Which numbers are refused with 4 does not depend on a flag: document 01 has lists for codes, and a flag is none.
 pub flags-no-code : (f : FlatRecord) (k : Kind) → listed k (flagless f) ≡ listed k f

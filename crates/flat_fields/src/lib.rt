@@ -1,7 +1,4 @@
 // The record that numbers stand for.
-use codes::Category;
-use codes::Marker;
-use codes::Status;
 use decode::Decoded;
 use flat_records::FlatRecord;
 use labels::Lookup;
@@ -14,26 +11,7 @@ use records::MlsCount;
 use records::Record;
 use refusals::Refusal;
 ghost use mathlib.Core.Path.{_≡_};
-ghost use Rattle.flat_fields.specs.Fields.{kindAt, listed, fits, fieldsOf, bodyFrom, recordOfKind, recordFrom};
-
-// Every field that some kind of record has, as its numbers give it.
-struct Fields {
-    status: Status,
-    marker: Marker,
-    category: Category,
-    azimuth: AzimuthCount,
-    course: CourseCount,
-    glide: GlideCount,
-    deviation: MlsCount,
-    inhibit: bool,
-    clearance: bool,
-    manual: bool,
-    parity_good: bool,
-    word_number: u8,
-    frequency: u32,
-    setting: u16,
-    octet: u8,
-}
+ghost use Rattle.flat_fields.specs.Fields.{kindAt, listed, fits, bodyFrom, recordOfKind, recordFrom};
 
 // The kind at a place of document 01's table, counted from 1.
 fn kind_at(number: u8) -> Lookup
@@ -68,20 +46,9 @@ fn codes_listed(kind: Kind, f: FlatRecord) -> bool
     let marker = codes::is_marker(f.marker as u32);
     match kind {
         Kind::VorAzimuth => status & marker,
-        Kind::VorFrequency => status,
-        Kind::IlsCourse => status,
-        Kind::IlsGlide => status,
         Kind::IlsFrequency => status & category,
-        Kind::MlsFrequency => status,
-        Kind::MlsAzimuthDeviation => status,
-        Kind::MlsGlideDeviation => status,
-        Kind::SelectedAzimuth => status,
-        Kind::GreatestGlideAngle => status,
-        Kind::SelectedGlideAngle => status,
-        Kind::Part1 => true,
-        Kind::Part2 => true,
-        Kind::Part3 => true,
-        Kind::Part4 => true,
+        Kind::Part1 | Kind::Part2 | Kind::Part3 | Kind::Part4 => true,
+        _ => status,
     }
 }
 
@@ -96,123 +63,90 @@ fn fields_fit(kind: Kind, f: FlatRecord) -> bool
     let octet = f.value <= 255;
     let short = f.value <= 65535;
     match kind {
-        Kind::VorAzimuth => true,
-        Kind::VorFrequency => true,
-        Kind::IlsCourse => inhibit,
-        Kind::IlsGlide => inhibit,
-        Kind::IlsFrequency => true,
-        Kind::MlsFrequency => true,
-        Kind::MlsAzimuthDeviation => inhibit & clearance,
-        Kind::MlsGlideDeviation => inhibit & clearance,
-        Kind::SelectedAzimuth => manual & short,
-        Kind::GreatestGlideAngle => short,
-        Kind::SelectedGlideAngle => manual & short,
+        Kind::IlsCourse | Kind::IlsGlide => inhibit,
+        Kind::MlsAzimuthDeviation | Kind::MlsGlideDeviation => inhibit & clearance,
+        Kind::SelectedAzimuth | Kind::SelectedGlideAngle => manual & short,
+        Kind::GreatestGlideAngle | Kind::Part2 | Kind::Part3 => short,
         Kind::Part1 => octet,
-        Kind::Part2 => short,
-        Kind::Part3 => short,
         Kind::Part4 => good & short,
-    }
-}
-
-// What the numbers mean, for every kind.
-fn fields_of(f: FlatRecord) -> Fields
-    ensures { λ r. ⌜ r ≡ fieldsOf f ⌝ }
-{
-    let count = f.count;
-    Fields {
-        status: codes::binary_status((f.status as u32 + 3) % 4),
-        marker: codes::marker_of(f.marker as u32),
-        category: codes::category_of(f.category as u32),
-        azimuth: AzimuthCount(count),
-        course: CourseCount(count),
-        glide: GlideCount(count),
-        deviation: MlsCount(count),
-        inhibit: f.inhibit == 1,
-        clearance: f.clearance == 1,
-        manual: f.manual == 1,
-        parity_good: f.parity_good == 1,
-        word_number: f.word_number,
-        frequency: f.value,
-        setting: (f.value % 65536) as u16,
-        octet: (f.value % 256) as u8,
+        _ => true,
     }
 }
 
 // The body of a kind, from the fields that the kind has.
-fn body_from(kind: Kind, f: Fields) -> Body
+fn body_from(kind: Kind, f: FlatRecord) -> Body
     ensures { λ r. ⌜ r ≡ bodyFrom kind f ⌝ }
 {
-    let status = f.status;
-    let marker = f.marker;
-    let category = f.category;
-    let azimuth = f.azimuth;
-    let course = f.course;
-    let glide = f.glide;
-    let deviation = f.deviation;
+    let inhibit = f.inhibit == 1;
+    let clearance = f.clearance == 1;
+    let manual = f.manual == 1;
+    let parity_good = f.parity_good == 1;
+    let word_number = f.word_number;
+    let frequency = f.value;
+    let short = (frequency % 65536) as u16;
+    let octet = (frequency % 256) as u8;
+    let count = f.count;
+    let category = codes::category_of(f.category as u32);
+    let marker = codes::marker_of(f.marker as u32);
+    let status = codes::binary_status((f.status as u32 + 3) % 4);
     match kind {
         Kind::VorAzimuth => Body::VorAzimuth {
-            status: status,
-            marker: marker,
-            count: azimuth,
+            status,
+            marker,
+            count: AzimuthCount(count),
         },
-        Kind::VorFrequency => Body::VorFrequency {
-            status: status,
-            frequency: f.frequency,
-        },
+        Kind::VorFrequency => Body::VorFrequency { status, frequency },
         Kind::IlsCourse => Body::IlsCourse {
-            status: status,
-            inhibit: f.inhibit,
-            count: course,
+            status,
+            inhibit,
+            count: CourseCount(count),
         },
         Kind::IlsGlide => Body::IlsGlide {
-            status: status,
-            inhibit: f.inhibit,
-            count: glide,
+            status,
+            inhibit,
+            count: GlideCount(count),
         },
         Kind::IlsFrequency => Body::IlsFrequency {
-            status: status,
-            category: category,
-            frequency: f.frequency,
+            status,
+            category,
+            frequency,
         },
-        Kind::MlsFrequency => Body::MlsFrequency {
-            status: status,
-            frequency: f.frequency,
-        },
+        Kind::MlsFrequency => Body::MlsFrequency { status, frequency },
         Kind::MlsAzimuthDeviation => Body::MlsAzimuthDeviation {
-            status: status,
-            inhibit: f.inhibit,
-            clearance: f.clearance,
-            count: deviation,
+            status,
+            inhibit,
+            clearance,
+            count: MlsCount(count),
         },
         Kind::MlsGlideDeviation => Body::MlsGlideDeviation {
-            status: status,
-            inhibit: f.inhibit,
-            clearance: f.clearance,
-            count: deviation,
+            status,
+            inhibit,
+            clearance,
+            count: MlsCount(count),
         },
         Kind::SelectedAzimuth => Body::SelectedAzimuth {
-            status: status,
-            manual: f.manual,
-            degrees: f.setting,
+            status,
+            manual,
+            degrees: short,
         },
         Kind::GreatestGlideAngle => Body::GreatestGlideAngle {
-            status: status,
-            tenths: f.setting,
+            status,
+            tenths: short,
         },
         Kind::SelectedGlideAngle => Body::SelectedGlideAngle {
-            status: status,
-            manual: f.manual,
-            tenths: f.setting,
+            status,
+            manual,
+            tenths: short,
         },
         Kind::Part1 => Body::Part1 {
-            word_number: f.word_number,
-            content: f.octet,
+            word_number,
+            content: octet,
         },
-        Kind::Part2 => Body::Part2 { content: f.setting },
-        Kind::Part3 => Body::Part3 { content: f.setting },
+        Kind::Part2 => Body::Part2 { content: short },
+        Kind::Part3 => Body::Part3 { content: short },
         Kind::Part4 => Body::Part4 {
-            parity_good: f.parity_good,
-            content: f.setting,
+            parity_good,
+            content: short,
         },
     }
 }
@@ -230,7 +164,7 @@ fn record_of_kind(kind: Kind, f: FlatRecord) -> Decoded
     }
     Decoded::Accepted(Record {
         source: f.source,
-        body: body_from(kind, fields_of(f)),
+        body: body_from(kind, f),
     })
 }
 

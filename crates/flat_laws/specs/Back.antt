@@ -19,7 +19,7 @@ use Rattle.encode.specs.Encode.{valuesLegal}
 use Rattle.roundtrip.specs.Forth.{marker-listed}
 use Rattle.flat_records.specs.Numbers.{flatBody, flatOf}
 use Rattle.flat_records.specs.declared.FlatRecord.{FlatRecord}
-use Rattle.flat_fields.specs.Fields.{kindAt, listed, isShort, fits, fieldsOf, bodyFrom, recordOfKind, recordFound, recordFrom, all-kept}
+use Rattle.flat_fields.specs.Fields.{kindAt, listed, isShort, fits, bodyFrom, recordOfKind, recordFound, recordFrom, all-kept}
 use Rattle.flat_laws.specs.Codes.{status-listed, category-listed, flag-fits, status-of}
 
 -- the numbers of a body are those that its fields' types hold
@@ -71,7 +71,7 @@ short-fits n h = le-leb n 65535 (omega arith)
 pub record Represents (b : Body) (f : FlatRecord) : Type 0 where
   pub codes : listed (kindOf b) f ≡ true
   pub others : fits (kindOf b) f ≡ true
-  pub body : bodyFrom (kindOf b) (fieldsOf f) ≡ b
+  pub body : bodyFrom (kindOf b) f ≡ b
 
 pub represents : (s : ℕ) (b : Body) → Bounded b → Represents b (flatBody s b)
 represents s (Body.VorAzimuth t m c) h =

@@ -17,7 +17,7 @@ use Rattle.labels.specs.declared.Lookup.{Lookup}
 use Rattle.decode.specs.declared.Decoded.{Decoded}
 use Rattle.flat_records.specs.Numbers.{statusNumber, withCount, withValue, part, flatBody, flatOf}
 use Rattle.flat_records.specs.declared.FlatRecord.{FlatRecord}
-use Rattle.flat_fields.specs.Fields.{statusOf, statusListed, kindAt, listed, isFlag, isOctet, isShort, fits, fieldsOf, bodyFrom, recordAs, recordOfKind, recordFound, recordFrom}
+use Rattle.flat_fields.specs.Fields.{statusOf, statusListed, kindAt, listed, isFlag, isOctet, isShort, fits, bodyFrom, recordAs, recordOfKind, recordFound, recordFrom}
 use Rattle.flat_laws.specs.Codes.{place-of, status-number, category-number, flag-number}
 
 -- the numbers in the fields that a kind has
@@ -71,7 +71,7 @@ module _ (f : FlatRecord) where
       λ i. withValue (p i) (f .source) (status-number (f .status) c i) 0 (flag-number (f .manual) (a .0) i) (short (f .value) (a .1) i)
 
   -- the numbers of what a kind reads are those that it read
-  body-forth : (k : Kind) → placeOf k ≡ f .kind → listed k f ≡ true → fits k f ≡ true → flatBody (f .source) (bodyFrom k (fieldsOf f)) ≡ only k f
+  body-forth : (k : Kind) → placeOf k ≡ f .kind → listed k f ≡ true → fits k f ≡ true → flatBody (f .source) (bodyFrom k f) ≡ only k f
   body-forth Kind.VorAzimuth p c v =
       let a = both-true (statusListed (f .status)) (markerListed (f .marker)) c in
       λ i. withCount (p i) (f .source) (status-number (f .status) (a .0) i) (marker-code (f .marker) (a .1) i) 0 0 (f .count)

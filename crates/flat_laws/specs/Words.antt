@@ -22,7 +22,7 @@ use Rattle.encode.specs.declared.Encoded.{Encoded}
 use Rattle.roundtrip.specs.RoundTrip.{decode-encode, encode-decode, written}
 use Rattle.flat_records.specs.Numbers.{flatBody, flatOf}
 use Rattle.flat_records.specs.declared.FlatRecord.{FlatRecord}
-use Rattle.flat_fields.specs.Fields.{kindAt, listed, fits, fieldsOf, bodyFrom, recordAs, recordOfKind, recordFound, recordFrom}
+use Rattle.flat_fields.specs.Fields.{kindAt, listed, fits, bodyFrom, recordAs, recordOfKind, recordFound, recordFrom}
 use Rattle.flat_fields.specs.Fields.{codes-broken as numbers-broken, value-broken, all-kept}
 use Rattle.flat_words.specs.Words.{flatWord, encoded, encodeFlat}
 use Rattle.flat_words.specs.declared.FlatWord.{FlatWord}
@@ -78,18 +78,18 @@ refusedBy x = record { refusal = numberOf x; word = 0 }
 
 -- the source and every code of the kind, a frequency's status among them, are in their lists
 abbrev pub allListed : Kind → FlatRecord → Bool
-allListed k f = (leb (f .source) 3 && listed k f) && codesListed (bodyFrom k (fieldsOf f))
+allListed k f = (leb (f .source) 3 && listed k f) && codesListed (bodyFrom k f)
 
 -- every other field is legal
 abbrev pub allLegal : Kind → FlatRecord → Bool
-allLegal k f = fits k f && valuesLegal (bodyFrom k (fieldsOf f))
+allLegal k f = fits k f && valuesLegal (bodyFrom k f)
 
 -- 2: no kind has the number
 pub no-kind : (f : FlatRecord) → kindAt (f .kind) ≡ Lookup.Unknown → encodeFlat f ≡ refusedBy Refusal.Label
 no-kind f e = ap (λ (l : Lookup). flatWord (encoded (recordFound l f))) e
 
 -- kinds of which a field may not fit have a code for every status
-unfit-coded : (k : Kind) (f : FlatRecord) → fits k f ≡ false → codesListed (bodyFrom k (fieldsOf f)) ≡ true
+unfit-coded : (k : Kind) (f : FlatRecord) → fits k f ≡ false → codesListed (bodyFrom k f) ≡ true
 unfit-coded Kind.VorAzimuth f e = refl
 unfit-coded Kind.VorFrequency f e = absurd (false≢true (sym e))
 unfit-coded Kind.IlsCourse f e = refl
@@ -111,7 +111,7 @@ module _ (f : FlatRecord) (k : Kind) (known : kindAt (f .kind) ≡ Lookup.Known 
   as-kind : encodeFlat f ≡ flatWord (encoded (recordOfKind k f))
   as-kind = ap (λ (l : Lookup). flatWord (encoded (recordFound l f))) known
 
-  by-tests : (s c v : Bool) → (leb (f .source) 3 && listed k f) ≡ s → codesListed (bodyFrom k (fieldsOf f)) ≡ c → fits k f ≡ v
+  by-tests : (s c v : Bool) → (leb (f .source) 3 && listed k f) ≡ s → codesListed (bodyFrom k f) ≡ c → fits k f ≡ v
       → (s && c) ≡ false → encodeFlat f ≡ refusedBy Refusal.Code
   by-tests false c v es ec ev e = as-kind ∙ ap (λ (d : Decoded). flatWord (encoded d)) (numbers-broken k f es)
   by-tests true true v es ec ev e = let z : _≡_ {A = ℕ} 0 1 = cc in absurd (omega arith)
@@ -123,20 +123,20 @@ module _ (f : FlatRecord) (k : Kind) (known : kindAt (f .kind) ≡ Lookup.Known 
 
   -- 4: a code or the source is outside its list, whatever the other fields are
   pub code-first : allListed k f ≡ false → encodeFlat f ≡ refusedBy Refusal.Code
-  code-first e = by-tests (leb (f .source) 3 && listed k f) (codesListed (bodyFrom k (fieldsOf f))) (fits k f) refl refl refl e
+  code-first e = by-tests (leb (f .source) 3 && listed k f) (codesListed (bodyFrom k f)) (fits k f) refl refl refl e
 
-  by-values : (v l : Bool) → fits k f ≡ v → valuesLegal (bodyFrom k (fieldsOf f)) ≡ l → allListed k f ≡ true → (v && l) ≡ false
+  by-values : (v l : Bool) → fits k f ≡ v → valuesLegal (bodyFrom k f) ≡ l → allListed k f ≡ true → (v && l) ≡ false
       → encodeFlat f ≡ refusedBy Refusal.Value
   by-values false l ev el c e =
       as-kind
-      ∙ ap (λ (d : Decoded). flatWord (encoded d)) (value-broken k f (both-true (leb (f .source) 3 && listed k f) (codesListed (bodyFrom k (fieldsOf f))) c .0) ev)
+      ∙ ap (λ (d : Decoded). flatWord (encoded d)) (value-broken k f (both-true (leb (f .source) 3 && listed k f) (codesListed (bodyFrom k f)) c .0) ev)
   by-values true true ev el c e = let z : _≡_ {A = ℕ} 0 1 = cc in absurd (omega arith)
   by-values true false ev el c e =
-      let b = both-true (leb (f .source) 3 && listed k f) (codesListed (bodyFrom k (fieldsOf f))) c in
+      let b = both-true (leb (f .source) 3 && listed k f) (codesListed (bodyFrom k f)) c in
       as-kind
       ∙ ap (λ (d : Decoded). flatWord (encoded d)) (all-kept k f (b .0) ev)
       ∙ ap flatWord (values-broken document01 (recordAs k f) (ap₂ _&&_ (both-true (leb (f .source) 3) (listed k f) (b .0) .0) (b .1)) el)
 
   -- 6: every code and the source are listed, and another field is not legal
   pub value-second : allListed k f ≡ true → allLegal k f ≡ false → encodeFlat f ≡ refusedBy Refusal.Value
-  value-second c e = by-values (fits k f) (valuesLegal (bodyFrom k (fieldsOf f))) refl refl c e
+  value-second c e = by-values (fits k f) (valuesLegal (bodyFrom k f)) refl refl c e

@@ -18,57 +18,36 @@ statusNumber Status.NoData = 2
 statusNumber Status.Test = 3
 statusNumber Status.Ready = 4
 
--- a kind with a count, one with another value, and a part of group C: zero in every field that is not named
-abbrev pub withCount : ℕ → ℕ → ℕ → ℕ → ℕ → ℕ → ℤ → FlatRecord
-withCount kind source status marker inhibit clearance count = record {
-  refusal = 0;
+-- the thirteen numbers, in the struct's order: the refusal, the kind and the source; the three codes; the four flags; the word number, the count and the value
+abbrev pub numbers : ℕ × ℕ × ℕ → ℕ × ℕ × ℕ → ℕ × ℕ × ℕ × ℕ → ℕ → ℤ → ℕ → FlatRecord
+numbers (refusal, kind, source) (status, marker, category) (inhibit, clearance, manual, good) number count value = record {
+  refusal = refusal;
   kind = kind;
   source = source;
   status = status;
   marker = marker;
-  category = 0;
+  category = category;
   inhibit = inhibit;
   clearance = clearance;
-  manual = 0;
-  «parity_good» = 0;
-  «word_number» = 0;
-  count = count;
-  value = 0;
-}
-
-abbrev pub withValue : ℕ → ℕ → ℕ → ℕ → ℕ → ℕ → FlatRecord
-withValue kind source status category manual value = record {
-  refusal = 0;
-  kind = kind;
-  source = source;
-  status = status;
-  marker = 0;
-  category = category;
-  inhibit = 0;
-  clearance = 0;
   manual = manual;
-  «parity_good» = 0;
-  «word_number» = 0;
-  count = pos 0;
+  «parity_good» = good;
+  «word_number» = number;
+  count = count;
   value = value;
 }
 
+-- a kind with a count, one with another value, a part of group C, and a refusal: zero in every field that is not named
+abbrev pub withCount : ℕ → ℕ → ℕ → ℕ → ℕ → ℕ → ℤ → FlatRecord
+withCount kind source status marker inhibit clearance count = numbers (0, kind, source) (status, marker, 0) (inhibit, clearance, 0, 0) 0 count 0
+
+abbrev pub withValue : ℕ → ℕ → ℕ → ℕ → ℕ → ℕ → FlatRecord
+withValue kind source status category manual value = numbers (0, kind, source) (status, 0, category) (0, 0, manual, 0) 0 (pos 0) value
+
 abbrev pub part : ℕ → ℕ → ℕ → ℕ → ℕ → FlatRecord
-part kind source good number content = record {
-  refusal = 0;
-  kind = kind;
-  source = source;
-  status = 0;
-  marker = 0;
-  category = 0;
-  inhibit = 0;
-  clearance = 0;
-  manual = 0;
-  «parity_good» = good;
-  «word_number» = number;
-  count = pos 0;
-  value = content;
-}
+part kind source good number content = numbers (0, kind, source) (0, 0, 0) (0, 0, 0, good) number (pos 0) content
+
+abbrev pub refused : ℕ → FlatRecord
+refused refusal = numbers (refusal, 0, 0) (0, 0, 0) (0, 0, 0, 0) 0 (pos 0) 0
 
 -- the numbers of a record, from its kind's number, its source and its body
 abbrev pub flatNumbers : ℕ → ℕ → Body → FlatRecord
@@ -92,24 +71,7 @@ flatNumbers n s (Body.Part4 good content) = part n s (flagBit good) 0 content
 abbrev pub flatBody : ℕ → Body → FlatRecord
 flatBody s b = flatNumbers (placeOf (kindOf b)) s b
 
--- beside a refusal every other number is zero
-abbrev pub refused : ℕ → FlatRecord
-refused number = record {
-  refusal = number;
-  kind = 0;
-  source = 0;
-  status = 0;
-  marker = 0;
-  category = 0;
-  inhibit = 0;
-  clearance = 0;
-  manual = 0;
-  «parity_good» = 0;
-  «word_number» = 0;
-  count = pos 0;
-  value = 0;
-}
-
+-- the numbers of a word's record, or of its refusal
 abbrev pub flatOf : Decoded → FlatRecord
 flatOf (Decoded.Accepted r) = flatBody (r .source) (r .body)
 flatOf (Decoded.Refused f) = refused (numberOf f)

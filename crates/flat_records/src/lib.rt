@@ -76,86 +76,8 @@ pub fn flag_number(flag: bool) -> u8
     if flag { 1 } else { 0 }
 }
 
-// The numbers of a record with a count.
-fn with_count(
-    kind: u8,
-    source: u8,
-    status: Status,
-    marker: Marker,
-    inhibit: bool,
-    clearance: bool,
-    count: i16,
-) -> FlatRecord
-    ensures { λ r. ⌜ r ≡ withCount kind source (statusNumber status) (markerCode marker) (flagBit inhibit) (flagBit clearance) count ⌝ }
-{
-    FlatRecord {
-        refusal: 0,
-        kind: kind,
-        source: source,
-        status: status_number(status),
-        marker: marker_number(marker),
-        category: 0,
-        inhibit: flag_number(inhibit),
-        clearance: flag_number(clearance),
-        manual: 0,
-        parity_good: 0,
-        word_number: 0,
-        count: count,
-        value: 0,
-    }
-}
-
-// The numbers of a record with another value.
-fn with_value(
-    kind: u8,
-    source: u8,
-    status: Status,
-    category: Category,
-    manual: bool,
-    value: u32,
-) -> FlatRecord
-    ensures { λ r. ⌜ r ≡ withValue kind source (statusNumber status) (categoryCode category) (flagBit manual) value ⌝ }
-{
-    FlatRecord {
-        refusal: 0,
-        kind: kind,
-        source: source,
-        status: status_number(status),
-        marker: 0,
-        category: category_number(category),
-        inhibit: 0,
-        clearance: 0,
-        manual: flag_number(manual),
-        parity_good: 0,
-        word_number: 0,
-        count: 0,
-        value: value,
-    }
-}
-
-// The numbers of a part of group C.
-fn part(kind: u8, source: u8, parity_good: bool, word_number: u8, content: u16) -> FlatRecord
-    ensures { λ r. ⌜ r ≡ part kind source (flagBit «parity_good») «word_number» content ⌝ }
-{
-    FlatRecord {
-        refusal: 0,
-        kind: kind,
-        source: source,
-        status: 0,
-        marker: 0,
-        category: 0,
-        inhibit: 0,
-        clearance: 0,
-        manual: 0,
-        parity_good: flag_number(parity_good),
-        word_number: word_number,
-        count: 0,
-        value: content as u32,
-    }
-}
-
-// The numbers of a refusal.
-fn refused(refusal: u8) -> FlatRecord
+// The numbers of a refusal, or of none, which is 0: zero in every other field.
+fn blank(refusal: u8) -> FlatRecord
     ensures { λ r. ⌜ r ≡ refused refusal ⌝ }
 {
     FlatRecord {
@@ -173,6 +95,63 @@ fn refused(refusal: u8) -> FlatRecord
         count: 0,
         value: 0,
     }
+}
+
+// The numbers of a record with a count.
+fn with_count(
+    kind: u8,
+    source: u8,
+    status: Status,
+    marker: Marker,
+    inhibit: bool,
+    clearance: bool,
+    count: i16,
+) -> FlatRecord
+    ensures { λ r. ⌜ r ≡ withCount kind source (statusNumber status) (markerCode marker) (flagBit inhibit) (flagBit clearance) count ⌝ }
+{
+    let mut r = blank(0);
+    r.kind = kind;
+    r.source = source;
+    r.status = status_number(status);
+    r.marker = marker_number(marker);
+    r.inhibit = flag_number(inhibit);
+    r.clearance = flag_number(clearance);
+    r.count = count;
+    r
+}
+
+// The numbers of a record with another value.
+fn with_value(
+    kind: u8,
+    source: u8,
+    status: Status,
+    category: Category,
+    manual: bool,
+    value: u32,
+) -> FlatRecord
+    ensures { λ r. ⌜ r ≡ withValue kind source (statusNumber status) (categoryCode category) (flagBit manual) value ⌝ }
+{
+    let mut r = blank(0);
+    r.kind = kind;
+    r.source = source;
+    r.status = status_number(status);
+    r.category = category_number(category);
+    r.manual = flag_number(manual);
+    r.value = value;
+    r
+}
+
+// The numbers of a part of group C.
+fn part(kind: u8, source: u8, parity_good: bool, word_number: u8, content: u16) -> FlatRecord
+    ensures { λ r. ⌜ r ≡ part kind source (flagBit «parity_good») «word_number» content ⌝ }
+{
+    let mut r = blank(0);
+    r.kind = kind;
+    r.source = source;
+    r.parity_good = flag_number(parity_good);
+    r.word_number = word_number;
+    r.value = content as u32;
+    r
 }
 
 // The numbers of a record, from its kind's number, its source and its body.
@@ -300,7 +279,7 @@ pub fn flat_of(decoded: Decoded) -> FlatRecord
             let kind = records::place_of(records::kind_of(body));
             flat_numbers(kind, source, body)
         }
-        Decoded::Refused(refusal) => refused(refusals::number(refusal)),
+        Decoded::Refused(refusal) => blank(refusals::number(refusal)),
     }
 }
 

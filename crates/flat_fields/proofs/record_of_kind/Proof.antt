@@ -5,7 +5,7 @@ use mathlib.Core.Bool.{Bool, _&&_}
 use borrow.Author.Tests.{not-true, not-false}
 use lib.Dec.{leb}
 use Rattle.decode.specs.declared.Decoded.{Decoded}
-use Rattle.flat_fields.specs.Fields.{bodyFrom, codes-broken, value-broken, all-kept}
+use Rattle.flat_fields.specs.Fields.{codes-broken, value-broken, all-kept}
 use borrow.Author.Needs.{needs}
 use Rattle.flat_fields.proofs.record_of_kind.Statement.{statement}
 use Rattle.flat_fields.proofs.record_of_kind.Tie as tie
@@ -29,29 +29,19 @@ returns-2 c =
     (ap (λ (b : Bool). leb (a .f .source) 3 && b) (sym (c .before .before .before .codes-listed .ensures)) ∙ not-false _ (c .before .before .if1 .left))
     (sym (c .before .fields-fit .ensures) ∙ not-true _ (c .if2 .taken)))
 
-fields-of-requires : tie.Need-fields-of-requires
-fields-of-requires c κs = search needs
-
 body-from-requires : tie.Need-body-from-requires
 body-from-requires c κs = search needs
 
 returns-3 : tie.Need-returns-3
 returns-3 c =
-    let a = c .before .before .before .before .before .before .before .args in
-    (λ i. Decoded.Accepted (record { source = a .f .source; body = (c .body-from .ensures ∙ ap (bodyFrom (a .kind)) (c .before .fields-of .ensures)) i }))
+    let a = c .before .before .before .before .before .before .args in
+    (λ i. Decoded.Accepted (record { source = a .f .source; body = c .body-from .ensures i }))
     ∙ sym
     (all-kept (a .kind) (a .f)
-    (ap (λ (b : Bool). leb (a .f .source) 3 && b) (sym (c .before .before .before .before .before .codes-listed .ensures)) ∙ not-false _ (c .before .before .before .before .if1 .left))
-    (sym (c .before .before .before .fields-fit .ensures) ∙ not-false _ (c .before .before .if2 .left)))
+    (ap (λ (b : Bool). leb (a .f .source) 3 && b) (sym (c .before .before .before .before .codes-listed .ensures)) ∙ not-false _ (c .before .before .before .if1 .left))
+    (sym (c .before .before .fields-fit .ensures) ∙ not-false _ (c .before .if2 .left)))
 
 pub record-of-kind-spec : {M : Type 1} → statement M
 record-of-kind-spec =
     tie.close
-    (tie.spec
-    codes-listed-requires
-    returns
-    fields-fit-requires
-    returns-2
-    fields-of-requires
-    body-from-requires
-    returns-3)
+    (tie.spec codes-listed-requires returns fields-fit-requires returns-2 body-from-requires returns-3)

@@ -26,8 +26,8 @@ enum-known-decoded-2 c = search needs
 number-requires : tie.Need-number-requires
 number-requires c κs = search needs
 
-refused-requires : tie.Need-refused-requires
-refused-requires c κs = search needs
+blank-requires : tie.Need-blank-requires
+blank-requires c κs = search needs
 
 returns : tie.Need-returns
 returns c =
@@ -37,7 +37,7 @@ returns c =
     ∙ ap (λ (n : ℕ). flatNumbers n (g .0 .0 .source) (g .0 .0 .body)) (c .before .place-of .ensures ∙ ap placeOf (c .before .before .kind-of .ensures)))
 
 returns-2 : tie.Need-returns-2
-returns-2 c = rw (c .before .before .before .decoded2 .given .1) (c .refused .ensures ∙ ap refused (c .before .number .ensures))
+returns-2 c = rw (c .before .before .before .decoded2 .given .1) (c .blank .ensures ∙ ap refused (c .before .number .ensures))
 
 pub flat-of-spec : {M : Type 1} → statement M
 flat-of-spec =
@@ -49,6 +49,6 @@ flat-of-spec =
     flat-numbers-requires
     enum-known-decoded-2
     number-requires
-    refused-requires
+    blank-requires
     returns
     returns-2)

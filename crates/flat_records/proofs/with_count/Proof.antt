@@ -6,6 +6,9 @@ use borrow.Author.Needs.{needs}
 use Rattle.flat_records.proofs.with_count.Statement.{statement}
 use Rattle.flat_records.proofs.with_count.Tie as tie
 
+blank-requires : tie.Need-blank-requires
+blank-requires c κs = search needs
+
 status-number-requires : tie.Need-status-number-requires
 status-number-requires c κs = search needs
 
@@ -20,18 +23,21 @@ flag-number-requires-2 c κs = search needs
 
 returns : tie.Need-returns
 returns c =
+    let start = c .before .before .before .before in
     rw (
-      toZ-ofZ {w = w16} {z = c .before .before .before .before .args .count} (search needs),
+      toZ-ofZ {w = w16} {z = start .before .args .count} (search needs),
       c .flag-number2 .ensures,
       c .before .flag-number .ensures,
       c .before .before .marker-number .ensures,
       c .before .before .before .status-number .ensures,
+      start .blank .ensures,
     )
 
 pub with-count-spec : {M : Type 1} → statement M
 with-count-spec =
     tie.close
     (tie.spec
+    blank-requires
     status-number-requires
     marker-number-requires
     flag-number-requires
