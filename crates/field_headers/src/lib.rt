@@ -5,7 +5,19 @@ use fields::TagLookup;
 use refusals::Refusal;
 ghost use mathlib.Core.Path.{_≡_};
 ghost use lib.ListN.{drop};
-ghost use Rattle.fields.specs.Start.{kindOfTag, lengthAllowed, depthAllowed, judged, startOf};
+ghost use Rattle.fields.specs.Start.{tagOf, kindOfTag, lengthAllowed, depthAllowed, judged, startOf};
+
+// The tag of a kind of field.
+pub fn tag_of(kind: FieldKind) -> u8
+    ensures { λ r. ⌜ r ≡ tagOf kind ⌝ }
+{
+    match kind {
+        FieldKind::Word => 0x10,
+        FieldKind::Figure => 0x11,
+        FieldKind::Note => 0x12,
+        FieldKind::Group => 0x20,
+    }
+}
 
 // The kind of field that a tag stands for. The four tags are numbered from 0 to 3 without a jump that depends on the tag.
 fn kind_of_tag(tag: u8) -> TagLookup

@@ -1,5 +1,4 @@
 // The fields of a sheet, a line for each, as text in a buffer.
-use fields::FieldKind;
 use listing::Listed;
 use refusals::Refusal;
 use walk::FieldAt;
@@ -8,23 +7,10 @@ ghost use mathlib.Core.Path.{_≡_};
 ghost use Prim.Native.Nat.{_+_, _≤_};
 ghost use lib.Dec.{ltb};
 ghost use lib.ListN.{length};
-ghost use Rattle.fields.specs.Start.{tagOf};
 ghost use Rattle.walk.specs.Rest.{fieldOf};
 ghost use Rattle.text.specs.Writing.{Writes};
 ghost use Rattle.listing.specs.Listing.{listedOf, bufferOf};
 ghost use Rattle.field_lines.specs.FieldLines.{placeText, headText, lineOf, textOf};
-
-// The tag of a kind of field.
-fn tag_of(kind: FieldKind) -> u8
-    ensures { λ r. ⌜ r ≡ tagOf kind ⌝ }
-{
-    match kind {
-        FieldKind::Word => 0x10,
-        FieldKind::Figure => 0x11,
-        FieldKind::Note => 0x12,
-        FieldKind::Group => 0x20,
-    }
-}
 
 // The place and the depth, with a blank behind each.
 fn put_place(out: &mut [u8], at: usize, place: usize, depth: u8) -> usize
@@ -40,7 +26,7 @@ fn put_head(out: &mut [u8], at: usize, field: FieldAt) -> usize
     ensures { λ r. ⌜ Writes (now (out .entry)) at (headText (field .place) (field .depth) (field .kind) (field .length)) (now (out .exit)) r ⌝ }
 {
     let kind = field.kind;
-    let tag = tag_of(kind);
+    let tag = field_headers::tag_of(kind);
     let first = put_place(out, at, field.place, field.depth);
     let second = field_texts::put_hex_byte(out, first, tag);
     numerals::put_named(out, second, b" ", field.length as u64)

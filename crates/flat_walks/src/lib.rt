@@ -1,5 +1,4 @@
 // A walk over a sheet with its state and its fields as numbers.
-use fields::FieldKind;
 use refusals::Numbered;
 use refusals::Refusal;
 use walk::Given;
@@ -8,7 +7,6 @@ use walk::Walk;
 use walk::WalkStep;
 ghost use mathlib.Core.Path.{_≡_};
 ghost use Rattle.refusals.specs.Numbers.{numbered};
-ghost use Rattle.fields.specs.Start.{tagOf};
 ghost use Rattle.walk.specs.Step.{startWalk};
 ghost use Rattle.flat_walks.specs.Walks.{sheetRefusals, flatWalk, walkFrom, flatField, flatStep, stepped};
 
@@ -40,18 +38,6 @@ pub struct FlatWalked {
     pub next: FlatWalk,
 }
 
-// The tag of a kind of field.
-fn tag_of(kind: FieldKind) -> u8
-    ensures { λ r. ⌜ r ≡ tagOf kind ⌝ }
-{
-    match kind {
-        FieldKind::Word => 0x10,
-        FieldKind::Figure => 0x11,
-        FieldKind::Note => 0x12,
-        FieldKind::Group => 0x20,
-    }
-}
-
 // The numbers of what a step gives.
 fn flat_field(given: Given) -> FlatField
     ensures { λ r. ⌜ r ≡ flatField given ⌝ }
@@ -61,7 +47,7 @@ fn flat_field(given: Given) -> FlatField
             let kind = field.kind;
             FlatField {
                 refusal: 0,
-                tag: tag_of(kind),
+                tag: field_headers::tag_of(kind),
                 depth: field.depth,
                 place: field.place,
                 length: field.length,

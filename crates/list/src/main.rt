@@ -1,8 +1,5 @@
 // Lists the sheet that standard input holds, to standard output.
-use libc::STDERR_FILENO;
-use libc::STDOUT_FILENO;
 use listing::Listed;
-use standard_input::Input;
 ghost use mathlib.Core.Path.{_≡_};
 ghost use lib.ListN.{take};
 ghost use Rattle.io.specs.Counts.{Counts};
@@ -19,35 +16,14 @@ fn list_whole(sheet: &[u8], text: &mut [u8; 131072]) -> usize
     }
 }
 
-// Lists a sheet to standard output.
-fn print_listing(sheet: &[u8]) {
-    let mut text = [0u8; 131072];
-    let length = list_whole(sheet, &mut text);
-    if !io::write_all(STDOUT_FILENO, &text[..length]) {
-        io::write_all(
-            STDERR_FILENO,
-            b"lampcygnet-list: standard output cannot be written\n",
-        );
-    }
-}
-
-// The input is read to one byte past the longest sheet, so that a longer one is refused as such.
 fn main() {
-    if os::arg_count() > 1 {
-        io::write_all(
-            STDERR_FILENO,
-            b"lampcygnet-list: no argument is taken\nusage: lampcygnet-list < SHEET\n",
-        );
-        return;
-    }
+    let name = b"lampcygnet-list";
     let mut sheet = [0u8; 32769];
-    match standard_input::read_all(&mut sheet) {
-        Input::Length(read) => print_listing(&sheet[..read]),
-        Input::Failed => {
-            io::write_all(
-                STDERR_FILENO,
-                b"lampcygnet-list: standard input cannot be read\n",
-            );
-        }
+    let input = standard_streams::read_sheet(name, &mut sheet);
+    if input.read {
+        let read = input.length;
+        let mut text = [0u8; 131072];
+        let length = list_whole(&sheet[..read], &mut text);
+        standard_streams::write_text(name, &text[..length]);
     }
 }

@@ -254,18 +254,20 @@ carried-by w p e = carries document01 w p .0 (carried-only (partIn w) p e)
 pub given-only-by : (words : List ℕ) (before later : List WordAnswer) (g : Group) → answers new words ≡ before ++ (Complete g ∷ later) → GivenBy words before g
 given-only-by words before later g e =
     let t = given-by new words before later g e in
-    let k = t .2 in
-    let c₁ = cut classify (k .before) (k .earlier) _ (k .first-three) in
+    let found = t .2 .located in
+    let k = t .2 .completes in
+    let three = t .2 .first-three in
+    let c₁ = cut classify (found .before) (three .earlier) _ (three .whole) in
     let h₁ = headed classify (c₁ .back) _ _ (c₁ .back-is) in
-    let c₂ = cut classify (h₁ .tail) (others (k .r₁)) _ (h₁ .tail-is) in
+    let c₂ = cut classify (h₁ .tail) (others (three .r₁)) _ (h₁ .tail-is) in
     let h₂ = headed classify (c₂ .back) _ _ (c₂ .back-is) in
-    let c₃ = cut classify (h₂ .tail) (others (k .r₂)) _ (h₂ .tail-is) in
+    let c₃ = cut classify (h₂ .tail) (others (three .r₂)) _ (h₂ .tail-is) in
     let h₃ = headed classify (c₃ .back) _ _ (c₃ .back-is) in
     let p₁ = carried-by (h₁ .head) (One (k .source) (k .first)) (h₁ .head-is) in
     let p₂ = carried-by (h₂ .head) (Two (k .source) (k .second)) (h₂ .head-is) in
     let p₃ = carried-by (h₃ .head) (Three (k .source) (k .third)) (h₃ .head-is) in
-    let p₄ = carried-by (k .word) (Four (k .source) (k .fourth) (k .good)) (k .is-fourth) in
-    let b : k .before ≡ c₁ .front ++ sequence (h₁ .head) (h₂ .head) (h₃ .head) (c₂ .front) (c₃ .front) (h₃ .tail) =
+    let p₄ = carried-by (found .word) (Four (k .source) (k .fourth) (k .good)) (t .2 .is-last ∙ ap part (k .last)) in
+    let b : found .before ≡ c₁ .front ++ sequence (h₁ .head) (h₂ .head) (h₃ .head) (c₂ .front) (c₃ .front) (h₃ .tail) =
     c₁ .whole ∙ ap (λ (l : List ℕ). c₁ .front ++ l)
     (h₁ .whole ∙ ap (λ (l : List ℕ). h₁ .head ∷ l)
     (c₂ .whole ∙ ap (λ (l : List ℕ). c₂ .front ++ l)
@@ -275,16 +277,16 @@ given-only-by words before later g e =
       w₁ = h₁ .head;
       w₂ = h₂ .head;
       w₃ = h₃ .head;
-      w₄ = k .word;
+      w₄ = found .word;
       x₁ = c₂ .front;
       x₂ = c₃ .front;
       x₃ = h₃ .tail;
-      f₁ = k .r₁;
-      f₂ = k .r₂;
-      f₃ = k .r₃;
-      later = k .after;
-      words-are = k .words-are ∙ ap (λ (l : List ℕ). l ++ (k .word ∷ k .after)) b ∙ append-assoc (c₁ .front) _ _;
-      before-is = sym (t .1) ∙ ap (map wordAnswer) (k .answers-are) ∙ sym (answers-are new (k .before)) ∙ ap (answers new) b;
+      f₁ = three .r₁;
+      f₂ = three .r₂;
+      f₃ = three .r₃;
+      later = found .after;
+      words-are = found .words-are ∙ ap (λ (l : List ℕ). l ++ (found .word ∷ found .after)) b ∙ append-assoc (c₁ .front) _ _;
+      before-is = sym (t .1) ∙ ap (map wordAnswer) (found .answers-are) ∙ sym (answers-are new (found .before)) ∙ ap (answers new) b;
       in-sequence = record {
         first = p₁ .0;
         second = p₂ .0;
@@ -293,9 +295,9 @@ given-only-by words before later g e =
         source₂ = p₂ .1 ∙ sym (p₁ .1);
         source₃ = p₃ .1 ∙ sym (p₁ .1);
         source₄ = p₄ .1 ∙ sym (p₁ .1);
-        refused₁ = others-refused (c₂ .front) (k .r₁) (c₂ .front-is);
-        refused₂ = others-refused (c₃ .front) (k .r₂) (c₃ .front-is);
-        refused₃ = others-refused (h₃ .tail) (k .r₃) (h₃ .tail-is);
+        refused₁ = others-refused (c₂ .front) (three .r₁) (c₂ .front-is);
+        refused₂ = others-refused (c₃ .front) (three .r₂) (c₃ .front-is);
+        refused₃ = others-refused (h₃ .tail) (three .r₃) (h₃ .tail-is);
       };
       group = k .group ∙ λ i. groupOf (sym (p₁ .2) i) (sym (p₂ .2) i) (sym (p₃ .2) i) (sym (p₄ .2) i) (sym (p₄ .3) i);
     }

@@ -114,43 +114,38 @@ module _ {R : Type 0} where
   completing held (part p) g e = (p, refl, completes held p g (cc))
   completing held (other r) g e = let z : _≡_ {A = ℕ} 0 1 = cc in absurd (omega arith)
 
-  held-first-three : (s a b c : ℕ) (xs : List (Input R)) → HeldFrom (AfterThree s a b c) xs
-      → (earlier : List (Input R)) × (r₁ : List R) × (r₂ : List R) × (r₃ : List R) × (xs ≡ earlier ++ firstThree s a b c r₁ r₂ r₃)
-  held-first-three s a b c xs h = (h .3 .3 .0, h .3 .3 .1, h .3 .1, h .1, rw (h .2, h .3 .2, h .3 .3 .2) (simp append-assoc))
+  -- xs ends with parts one to three of one source in sequence, with only other words between and after them
+  pub record FirstThree (s a b c : ℕ) (xs : List (Input R)) : Type 0 where
+    pub earlier : List (Input R)
+    pub r₁ : List R
+    pub r₂ : List R
+    pub r₃ : List R
+    pub whole : xs ≡ earlier ++ firstThree s a b c r₁ r₂ r₃
+
+  held-first-three : (s a b c : ℕ) (xs : List (Input R)) → HeldFrom (AfterThree s a b c) xs → FirstThree s a b c xs
+  held-first-three s a b c xs h =
+      record { earlier = h .3 .3 .0; r₁ = h .3 .3 .1; r₂ = h .3 .1; r₃ = h .1; whole = rw (h .2, h .3 .2, h .3 .3 .2) (simp append-assoc) }
 
 -- Any words, and any rule that tells what each of them is.
 module _ {W R : Type 0} (classify : W → Input R) where
-  -- how the group g was completed in a run of words, `answers` being the answers before it
-  pub record CompletedBy (start : Reassembly) (words : List W) (answers : List (Reply R)) (g : Group) : Type 0 where
-    -- the word that completed it, and those before and after
+  -- where the answer o stands in a run of words, `answers` being the answers before it: the word that it answers, and those before and after
+  pub record Located (start : Reassembly) (words : List W) (answers : List (Reply R)) (o : Reply R) : Type 0 where
     pub before : List W
     pub word : W
     pub after : List W
     pub words-are : words ≡ before ++ (word ∷ after)
     pub answers-are : answers ≡ replies start (map classify before)
-    -- it is part four, and what is held at the start, followed by the words before, ends with the three others in sequence
-    pub source : ℕ
-    pub first : ℕ
-    pub second : ℕ
-    pub third : ℕ
-    pub fourth : ℕ
-    pub good : Bool
-    pub is-fourth : classify word ≡ part (Four source fourth good)
-    pub earlier : List (Input R)
-    pub r₁ : List R
-    pub r₂ : List R
-    pub r₃ : List R
-    pub first-three : stored start ++ map classify before ≡ earlier ++ firstThree source first second third r₁ r₂ r₃
-    -- and the group is theirs
-    pub group : g ≡ groupOf first second third fourth good
+    pub is : replyOf (heldAfter start (map classify before)) (classify word) ≡ o
 
-  record Located (start : Reassembly) (words : List W) (answers : List (Reply R)) (o : Reply R) : Type 0 where
-    before : List W
-    word : W
-    after : List W
-    words-are : words ≡ before ++ (word ∷ after)
-    answers-are : answers ≡ replies start (map classify before)
-    is : replyOf (heldAfter start (map classify before)) (classify word) ≡ o
+  -- how the group g was completed in a run of words, `answers` being the answers before it
+  pub record CompletedBy (start : Reassembly) (words : List W) (answers : List (Reply R)) (g : Group) : Type 0 where
+    pub located : Located start words answers (answered (Complete g))
+    -- the word is part four, and the group is that of its four parts
+    pub last : Part
+    pub is-last : classify (located .word) ≡ part last
+    pub completes : Completes (heldAfter start (map classify (located .before))) last g
+    -- and what is held at the start, followed by the words before, ends with the three others in sequence
+    pub first-three : FirstThree (completes .source) (completes .first) (completes .second) (completes .third) (stored start ++ map classify (located .before))
 
   locate : (start : Reassembly) (words : List W) (answers : List (Reply R)) (o : Reply R) (later : List (Reply R))
       → replies start (map classify words) ≡ answers ++ (o ∷ later) → Located start words answers o
@@ -177,25 +172,10 @@ module _ {W R : Type 0} (classify : W → Input R) where
       let xs = map classify (l .before) in
       let f = completing (heldAfter start xs) (classify (l .word)) g (l .is) in
       let k = f .2 in
-      let t = held-first-three (k .source) (k .first) (k .second) (k .third) (stored start ++ xs)
-      (rw (k .holding) at (held-from R start xs)) in
       record {
-        before = l .before;
-        word = l .word;
-        after = l .after;
-        words-are = l .words-are;
-        answers-are = l .answers-are;
-        source = k .source;
-        first = k .first;
-        second = k .second;
-        third = k .third;
-        fourth = k .fourth;
-        good = k .good;
-        is-fourth = f .1 ∙ ap part (k .last);
-        earlier = t .0;
-        r₁ = t .1;
-        r₂ = t .2;
-        r₃ = t .3;
-        first-three = t .4;
-        group = k .group;
+        located = l;
+        last = f .0;
+        is-last = f .1;
+        completes = k;
+        first-three = held-first-three (k .source) (k .first) (k .second) (k .third) (stored start ++ xs) (rw (k .holding) at (held-from R start xs));
       }
