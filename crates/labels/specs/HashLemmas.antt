@@ -1,9 +1,11 @@
 -- How the code finds the kind of a word: by a hash of its lowest byte, which finds the kind that the word's label stands for (`kind-hit`, `kind-miss`).
+-- And the kind of a label: by the byte that the label has in a word (`label-hit`, `label-miss`).
 -- Assumes nothing.
 use mathlib.Core.Path.{_≡_, refl, sym, ap, _∙_}
 use mathlib.Core.List.{List, [], _∷_}
-use Prim.Native.Nat.{ℕ, _*_, _/_, _%_}
+use Prim.Native.Nat.{ℕ, _*_, _/_, _%_, _<_, _≤_}
 use native.Mathlib.Nat.{div-one}
+use native.Mathlib.Omega.{arith}
 use lib.ListN.{getD}
 use Rattle.bits.specs.Fields.{bits}
 use Rattle.records.specs.All.{kinds, agree}
@@ -12,30 +14,13 @@ use Rattle.records.specs.declared.Kind.the-variants.{VorAzimuth, VorFrequency, 
 use Rattle.labels.specs.Label.{labelOf, label-twice, label-low, label-byte}
 use Rattle.labels.specs.Table.{labelNumber, rows, findKind, found, only}
 use Rattle.labels.specs.Assignment.{short}
+use Rattle.labels.specs.declared.KindByte.{KindByte}
 use Rattle.labels.specs.declared.Lookup.{Lookup}
 use Rattle.labels.specs.declared.Lookup.the-variants.{Known, Unknown}
 
--- the byte that a kind's label has in a word
+-- the byte that a kind's label has in a word: the label turned, as in every word
 abbrev pub byteOf : Kind → ℕ
-byteOf VorAzimuth = 0x49
-byteOf VorFrequency = 0x38
-byteOf IlsCourse = 0xde
-byteOf IlsGlide = 0x3e
-byteOf IlsFrequency = 0xd8
-byteOf MlsFrequency = 0x78
-byteOf MlsAzimuthDeviation = 0x96
-byteOf MlsGlideDeviation = 0x56
-byteOf SelectedAzimuth = 0xd6
-byteOf GreatestGlideAngle = 0x36
-byteOf SelectedGlideAngle = 0xb6
-byteOf Part1 = 0x06
-byteOf Part2 = 0x86
-byteOf Part3 = 0x46
-byteOf Part4 = 0xc6
-
--- which is turned, as in every word
-byte-label : (k : Kind) → byteOf k ≡ labelOf (labelNumber k)
-byte-label = agree byteOf (λ k. labelOf (labelNumber k)) refl
+byteOf k = labelOf (labelNumber k)
 
 -- the kind whose byte has each hash, from 0 to 15; no kind's has 7, where part 4 stands again
 abbrev pub hashed : List Kind
@@ -45,29 +30,48 @@ hashed =
 abbrev pub hash : ℕ → ℕ
 hash b = b * 23 / 64 % 16
 
+-- the kind of a hash, with its byte
+abbrev pub hashedAt : ℕ → KindByte
+hashedAt h = record { 0 = getD hashed h VorAzimuth; 1 = byteOf (getD hashed h VorAzimuth) }
+
 -- the only kind that can have the byte
-abbrev pub candidateOf : ℕ → Kind
-candidateOf b = getD hashed (hash b) VorAzimuth
+abbrev pub candidateOf : ℕ → KindByte
+candidateOf b = hashedAt (hash b)
 
 -- no two kinds' bytes have the same hash
-own : (k : Kind) → candidateOf (byteOf k) ≡ k
-own = agree (λ k. candidateOf (byteOf k)) (λ k. k) refl
+own : (k : Kind) → candidateOf (byteOf k) .0 ≡ k
+own = agree (λ k. candidateOf (byteOf k) .0) (λ k. k) refl
 
 low-byte : (w : ℕ) → bits 1 8 w ≡ w % 256
 low-byte w = ap (λ (x : ℕ). x % 256) (div-one w)
 
--- a word with the byte of a kind has its label
-pub kind-hit : (w : ℕ) (k : Kind) → byteOf k ≡ w % 256 → findKind rows (labelOf w) ≡ Known k
-kind-hit w k e =
-    ap (findKind rows) (sym (label-low w) ∙ ap labelOf (low-byte w ∙ sym e ∙ byte-label k) ∙ label-twice (labelNumber k) (short k))
-    ∙ found k
+module _ (w : ℕ) (c : KindByte) (told : c ≡ candidateOf (w % 256)) where
+  -- a word with the byte of its candidate is of that kind
+  pub kind-hit : c .1 ≡ w % 256 → Known (c .0) ≡ findKind rows (labelOf w)
+  kind-hit e =
+      let k = candidateOf (w % 256) .0 in
+      let b : byteOf k ≡ w % 256 = ap (λ (x : KindByte). x .1) (sym told) ∙ e in
+      let l : labelOf w ≡ labelNumber k = sym (label-low w) ∙ ap labelOf (low-byte w ∙ sym b) ∙ label-twice (labelNumber k) (short k) in
+      ap (λ (x : KindByte). Known (x .0)) told ∙ sym (ap (findKind rows) l ∙ found k)
 
--- a word that has not the byte of its candidate has no kind
-pub kind-miss : (w : ℕ) → (byteOf (candidateOf (w % 256)) ≡ w % 256 → ⊥) → findKind rows (labelOf w) ≡ Unknown
-kind-miss w n = by (findKind rows (labelOf w)) refl
+  -- and one with another byte is of no kind
+  pub kind-miss : (c .1 ≡ w % 256 → ⊥) → Unknown ≡ findKind rows (labelOf w)
+  kind-miss n = by (findKind rows (labelOf w)) refl
+    where
+      by : (l : Lookup) → findKind rows (labelOf w) ≡ l → Unknown ≡ findKind rows (labelOf w)
+      by Unknown e = sym e
+      by (Known k) e =
+          let b : byteOf k ≡ w % 256 = ap labelOf (only kinds (labelOf w) k e) ∙ label-byte w ∙ low-byte w in
+          absurd (n (ap (λ (x : KindByte). x .1) told ∙ ap byteOf (ap (λ (x : ℕ). candidateOf x .0) (sym b) ∙ own k) ∙ b))
+
+-- a label of 8 bits has its kind in a word of the byte that it is turned
+pub label-hit : (l b : ℕ) → l < 256 → b ≡ labelOf l → findKind rows (labelOf b) ≡ findKind rows l
+label-hit l b h e = ap (findKind rows) (ap labelOf e ∙ label-twice l h)
+
+-- and a longer one is no kind's
+pub label-miss : (l : ℕ) → 256 ≤ l → Unknown ≡ findKind rows l
+label-miss l h = by (findKind rows l) refl
   where
-    by : (l : Lookup) → findKind rows (labelOf w) ≡ l → findKind rows (labelOf w) ≡ Unknown
-    by Unknown e = e
-    by (Known k) e =
-        let b : byteOf k ≡ w % 256 = byte-label k ∙ ap labelOf (only kinds (labelOf w) k e) ∙ label-byte w ∙ low-byte w in
-        absurd (n (ap byteOf (ap candidateOf (sym b) ∙ own k) ∙ b))
+    by : (x : Lookup) → findKind rows l ≡ x → Unknown ≡ findKind rows l
+    by Unknown e = sym e
+    by (Known k) e = absurd (omega (arith, short k, only kinds l k e))

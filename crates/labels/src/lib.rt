@@ -4,7 +4,7 @@ ghost use mathlib.Core.Path.{_≡_};
 ghost use Prim.Native.Nat.{_<_, _%_};
 ghost use Rattle.labels.specs.Label.{labelOf};
 ghost use Rattle.labels.specs.Table.{rows, rowOf, kindAt, findKind};
-ghost use Rattle.labels.specs.HashLemmas.{byteOf, candidateOf};
+ghost use Rattle.labels.specs.HashLemmas.{candidateOf};
 
 // A row of the table. A one in `zeros` is a bit that is zero in every word of the kind.
 pub struct Row {
@@ -128,30 +128,6 @@ pub fn row_of(kind: Kind) -> Row
     }
 }
 
-// The kind that a label stands for.
-pub fn find_kind(label: u32) -> Lookup
-    ensures { λ r. ⌜ r ≡ findKind rows label ⌝ }
-{
-    match label {
-        0o222 => Lookup::Known(Kind::VorAzimuth),
-        0o034 => Lookup::Known(Kind::VorFrequency),
-        0o173 => Lookup::Known(Kind::IlsCourse),
-        0o174 => Lookup::Known(Kind::IlsGlide),
-        0o033 => Lookup::Known(Kind::IlsFrequency),
-        0o036 => Lookup::Known(Kind::MlsFrequency),
-        0o151 => Lookup::Known(Kind::MlsAzimuthDeviation),
-        0o152 => Lookup::Known(Kind::MlsGlideDeviation),
-        0o153 => Lookup::Known(Kind::SelectedAzimuth),
-        0o154 => Lookup::Known(Kind::GreatestGlideAngle),
-        0o155 => Lookup::Known(Kind::SelectedGlideAngle),
-        0o140 => Lookup::Known(Kind::Part1),
-        0o141 => Lookup::Known(Kind::Part2),
-        0o142 => Lookup::Known(Kind::Part3),
-        0o143 => Lookup::Known(Kind::Part4),
-        _ => Lookup::Unknown,
-    }
-}
-
 // The label in bits 1 to 8, bit 1 its highest binary digit. Of a label it gives the byte that a word has in those bits.
 pub fn label_of(word: u32) -> u32
     ensures { λ r. ⌜ r ≡ labelOf word ⌝ }
@@ -166,50 +142,30 @@ pub fn label_of(word: u32) -> u32
         + word / 128 % 2
 }
 
-// The byte that a kind's label has in a word.
-fn byte_of(kind: Kind) -> u32
-    ensures { λ r. ⌜ r ≡ byteOf kind ⌝ }
-{
-    match kind {
-        Kind::VorAzimuth => 0x49,
-        Kind::VorFrequency => 0x38,
-        Kind::IlsCourse => 0xde,
-        Kind::IlsGlide => 0x3e,
-        Kind::IlsFrequency => 0xd8,
-        Kind::MlsFrequency => 0x78,
-        Kind::MlsAzimuthDeviation => 0x96,
-        Kind::MlsGlideDeviation => 0x56,
-        Kind::SelectedAzimuth => 0xd6,
-        Kind::GreatestGlideAngle => 0x36,
-        Kind::SelectedGlideAngle => 0xb6,
-        Kind::Part1 => 0x06,
-        Kind::Part2 => 0x86,
-        Kind::Part3 => 0x46,
-        Kind::Part4 => 0xc6,
-    }
-}
+// A kind, and the byte that its label has in a word.
+struct KindByte(Kind, u32);
 
 // The only kind that a word can be of, by a hash of its lowest byte that no two labels share.
-fn candidate(word: u32) -> Kind
+fn candidate(word: u32) -> KindByte
     ensures { λ r. ⌜ r ≡ candidateOf (word % 256) ⌝ }
 {
     match word % 256 * 23 / 64 % 16 {
-        0 => Kind::Part2,
-        1 => Kind::SelectedGlideAngle,
-        2 => Kind::Part1,
-        3 => Kind::GreatestGlideAngle,
-        4 => Kind::VorFrequency,
-        5 => Kind::MlsAzimuthDeviation,
-        6 => Kind::IlsGlide,
-        7 => Kind::Part4,
-        8 => Kind::Part4,
-        9 => Kind::Part3,
-        10 => Kind::VorAzimuth,
-        11 => Kind::MlsFrequency,
-        12 => Kind::SelectedAzimuth,
-        13 => Kind::IlsFrequency,
-        14 => Kind::MlsGlideDeviation,
-        _ => Kind::IlsCourse,
+        0 => KindByte(Kind::Part2, 0x86),
+        1 => KindByte(Kind::SelectedGlideAngle, 0xb6),
+        2 => KindByte(Kind::Part1, 0x06),
+        3 => KindByte(Kind::GreatestGlideAngle, 0x36),
+        4 => KindByte(Kind::VorFrequency, 0x38),
+        5 => KindByte(Kind::MlsAzimuthDeviation, 0x96),
+        6 => KindByte(Kind::IlsGlide, 0x3e),
+        7 => KindByte(Kind::Part4, 0xc6),
+        8 => KindByte(Kind::Part4, 0xc6),
+        9 => KindByte(Kind::Part3, 0x46),
+        10 => KindByte(Kind::VorAzimuth, 0x49),
+        11 => KindByte(Kind::MlsFrequency, 0x78),
+        12 => KindByte(Kind::SelectedAzimuth, 0xd6),
+        13 => KindByte(Kind::IlsFrequency, 0xd8),
+        14 => KindByte(Kind::MlsGlideDeviation, 0x56),
+        _ => KindByte(Kind::IlsCourse, 0xde),
     }
 }
 
@@ -217,9 +173,21 @@ fn candidate(word: u32) -> Kind
 pub fn kind_in(word: u32) -> Lookup
     ensures { λ r. ⌜ r ≡ findKind rows (labelOf word) ⌝ }
 {
-    let kind = candidate(word);
-    if byte_of(kind) == word % 256 {
+    let found = candidate(word);
+    if found.1 == word % 256 {
+        let kind = found.0;
         Lookup::Known(kind)
+    } else {
+        Lookup::Unknown
+    }
+}
+
+// The kind that a label stands for: the one in a word that has it. A label has 8 bits.
+pub fn find_kind(label: u32) -> Lookup
+    ensures { λ r. ⌜ r ≡ findKind rows label ⌝ }
+{
+    if label < 256 {
+        kind_in(label_of(label))
     } else {
         Lookup::Unknown
     }

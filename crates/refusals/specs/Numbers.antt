@@ -39,38 +39,28 @@ numbered (f ∷ fs) n = cond (eqb n (numberOf f)) (Numbered.Refusal f) (numbered
 abbrev pub refusalOf : ℕ → Numbered
 refusalOf n = numbered refusals n
 
+-- both facts below, refusal by refusal
+each : (f : Refusal) → (refusalOf (numberOf f) ≡ Numbered.Refusal f) × (1 ≤ numberOf f) × (numberOf f ≤ 15)
+each Parity = (refl, lit≤ tt, lit≤ tt)
+each Label = (refl, lit≤ tt, lit≤ tt)
+each ZeroBit = (refl, lit≤ tt, lit≤ tt)
+each Code = (refl, lit≤ tt, lit≤ tt)
+each Digit = (refl, lit≤ tt, lit≤ tt)
+each Value = (refl, lit≤ tt, lit≤ tt)
+each AngleParity = (refl, lit≤ tt, lit≤ tt)
+each Reach = (refl, lit≤ tt, lit≤ tt)
+each Truncated = (refl, lit≤ tt, lit≤ tt)
+each Tag = (refl, lit≤ tt, lit≤ tt)
+each Length = (refl, lit≤ tt, lit≤ tt)
+each Depth = (refl, lit≤ tt, lit≤ tt)
+each Room = (refl, lit≤ tt, lit≤ tt)
+each Sequence = (refl, lit≤ tt, lit≤ tt)
+each Oversize = (refl, lit≤ tt, lit≤ tt)
+
 -- a refusal is the one of its number
 pub refusal-of-number : (f : Refusal) → refusalOf (numberOf f) ≡ Numbered.Refusal f
-refusal-of-number Parity = refl
-refusal-of-number Label = refl
-refusal-of-number ZeroBit = refl
-refusal-of-number Code = refl
-refusal-of-number Digit = refl
-refusal-of-number Value = refl
-refusal-of-number AngleParity = refl
-refusal-of-number Reach = refl
-refusal-of-number Truncated = refl
-refusal-of-number Tag = refl
-refusal-of-number Length = refl
-refusal-of-number Depth = refl
-refusal-of-number Room = refl
-refusal-of-number Sequence = refl
-refusal-of-number Oversize = refl
+refusal-of-number f = each f .0
 
 -- the numbers are 1 to 15: 0 is no refusal's
 pub number-bounds : (f : Refusal) → (1 ≤ numberOf f) × (numberOf f ≤ 15)
-number-bounds Parity = (lit≤ tt, lit≤ tt)
-number-bounds Label = (lit≤ tt, lit≤ tt)
-number-bounds ZeroBit = (lit≤ tt, lit≤ tt)
-number-bounds Code = (lit≤ tt, lit≤ tt)
-number-bounds Digit = (lit≤ tt, lit≤ tt)
-number-bounds Value = (lit≤ tt, lit≤ tt)
-number-bounds AngleParity = (lit≤ tt, lit≤ tt)
-number-bounds Reach = (lit≤ tt, lit≤ tt)
-number-bounds Truncated = (lit≤ tt, lit≤ tt)
-number-bounds Tag = (lit≤ tt, lit≤ tt)
-number-bounds Length = (lit≤ tt, lit≤ tt)
-number-bounds Depth = (lit≤ tt, lit≤ tt)
-number-bounds Room = (lit≤ tt, lit≤ tt)
-number-bounds Sequence = (lit≤ tt, lit≤ tt)
-number-bounds Oversize = (lit≤ tt, lit≤ tt)
+number-bounds f = (each f .1, each f .2)

@@ -4,14 +4,12 @@ use mathlib.Core.Path.{_≡_, sym, ap}
 use Prim.Native.Nat.{ℕ, zero, suc, _%_, _≤_}
 use native.Mathlib.Omega.{arith}
 use borrow.Author.Needs.{needs}
-use lib.ListN.{getD}
-use Rattle.records.specs.declared.Kind.the-variants.{VorAzimuth}
-use Rattle.labels.specs.HashLemmas.{hash, hashed}
+use Rattle.labels.specs.HashLemmas.{hash, hashedAt}
 use Rattle.labels.proofs.candidate.Statement.{statement}
 use Rattle.labels.proofs.candidate.Tie as tie
 
-at : {h i : ℕ} → h ≡ i → getD hashed i VorAzimuth ≡ getD hashed h VorAzimuth
-at e = ap (λ (n : ℕ). getD hashed n VorAzimuth) (sym e)
+at : {h i : ℕ} → h ≡ i → hashedAt i ≡ hashedAt h
+at e = ap hashedAt (sym e)
 
 -- failing the tests from 0 on
 abbrev Fails : ℕ → ℕ → Type 0
