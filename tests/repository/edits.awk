@@ -1,6 +1,7 @@
 # How many wrong programs each public function of one crate has: must-fail edits of its own code, or of what is private to its file and that it uses.
 # awk -f edits.awk [-v list=1] FILE.rt .. FILE.edit ..
 # Prints each public function with fewer than two; with list=1 every one, with its edits. Functions exported to C are left out: each is one call of a function that is counted.
+# So is one that gives no answer and has no `&mut` parameter, as one that only writes to standard output: a caller holds nothing afterwards that a promise could be about.
 
 FNR == 1 { source = ""; is_edit = (FILENAME ~ /\.edit$/); edit = FILENAME; sub(/.*\//, "", edit); sub(/\.edit$/, "", edit) }
 
@@ -36,12 +37,19 @@ FNR == 1 { source = ""; is_edit = (FILENAME ~ /\.edit$/); edit = FILENAME; sub(/
     edits[edit] = 1
 }
 
+# whether function i gives no answer and changes nothing that its caller lent
+function only_writes(i,    head) {
+    head = body[i]
+    sub(/\{.*/, "", head)
+    return head !~ /->/ && head !~ /&mut|&'[a-z]+ mut/
+}
+
 # whether item i names item j
 function names(i, j) { return body[i] ~ ("(^|[^A-Za-z0-9_])" item[j] "([^A-Za-z0-9_]|$)") }
 
 END {
     for (i = 1; i <= count; i++) {
-        if (!public[i] || exported[i]) continue
+        if (!public[i] || exported[i] || only_writes(i)) continue
         split("", reached)
         reached[i] = 1
         do {

@@ -55,15 +55,15 @@ fn with_sign(negative: bool, size: u64) -> i64 {
 
 // The number of the refusal in `refused N`, or 0 and the word.
 fn answer_in(text: &[u8]) -> Answer {
-    let refusal = test_vectors::later_fields(text);
+    let refusal = vector_texts::text_behind(text, b' ');
     if refusal.len() == 0 {
-        let word = test_vectors::read_number(text, 16);
+        let word = vector_texts::read_number(text, 16, 18446744073709551615);
         return Answer {
             refusal: 0,
             word: word.value,
         };
     }
-    let number = test_vectors::read_number(refusal, 10);
+    let number = vector_texts::read_number(refusal, 10, 18446744073709551615);
     Answer {
         refusal: number.value,
         word: 0,
@@ -72,30 +72,42 @@ fn answer_in(text: &[u8]) -> Answer {
 
 // Whether the three numbers of a line are well formed, and the answer after them is right.
 fn is_line_right(line: &[u8]) -> bool {
-    let after_label = test_vectors::later_fields(line);
-    let after_source = test_vectors::later_fields(after_label);
-    let figure = test_vectors::first_field(after_source);
-    let label = test_vectors::read_number(test_vectors::first_field(line), 8);
-    let source = test_vectors::read_number(test_vectors::first_field(after_label), 10);
-    let size = test_vectors::read_size(figure);
-    let negative = test_vectors::starts_with(figure, b'-');
+    let after_label = vector_texts::text_behind(line, b' ');
+    let after_source = vector_texts::text_behind(after_label, b' ');
+    let figure = vector_texts::text_before(after_source, b' ');
+    let label = vector_texts::read_number(
+        vector_texts::text_before(line, b' '),
+        8,
+        18446744073709551615,
+    );
+    let source = vector_texts::read_number(
+        vector_texts::text_before(after_label, b' '),
+        10,
+        18446744073709551615,
+    );
+    let size = vector_texts::read_size(figure, 18446744073709551615);
+    let negative = vector_texts::starts_with(figure, b'-');
     let right = is_right(Expected {
         label: label.value,
         source: source.value,
         millionths: with_sign(negative, size.value),
-        answer: answer_in(test_vectors::later_fields(after_source)),
+        answer: answer_in(vector_texts::text_behind(after_source, b' ')),
     });
-    (label.is_good & source.is_good) & (size.is_good & right)
+    (label.good & source.good) & (size.good & right)
 }
 
 // The tally of a text's lines.
 fn tally_of(text: &[u8]) -> Tally {
-    let mut tally = test_vectors::no_lines();
+    let mut tally = Tally {
+        lines: 0,
+        wrong: 0,
+        first: 0,
+    };
     let mut start = 0;
     while start < text.len() {
-        let line = test_vectors::line_at(text, start);
+        let line = vector_texts::text_before(&text[start..], b'\n');
         tally = test_vectors::with_line(tally, is_line_right(line));
-        start = test_vectors::next_line(text, start);
+        start = text.len() - vector_texts::text_behind(&text[start..], b'\n').len();
     }
     tally
 }
@@ -104,7 +116,7 @@ fn tally_of(text: &[u8]) -> Tally {
 fn check_file(name: &[u8]) {
     let mut text = [0u8; 32768];
     let length = test_vectors::read_file(name, &mut text);
-    test_vectors::report(name, tally_of(test_vectors::part_of(&text, 0, length)));
+    test_vectors::report(name, tally_of(&text[..length]));
 }
 
 fn main() {

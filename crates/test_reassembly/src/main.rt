@@ -20,32 +20,38 @@ fn last_part(held: Reassembly) -> u64 {
     }
 }
 
+// Whether a text is this number.
+fn is_number(text: &[u8], value: u64) -> bool {
+    let read = vector_texts::read_number(text, 10, 18446744073709551615);
+    read.good & (read.value == value)
+}
+
 // Whether a text is this number of bits and this parity.
 fn is_joined(text: &[u8], bits: u64, parity_good: bool) -> bool {
     let letter = if parity_good { b'T' } else { b'F' };
-    test_vectors::is_number(test_vectors::first_field(text), bits)
-        & test_vectors::starts_with(test_vectors::later_fields(text), letter)
+    is_number(vector_texts::text_before(text, b' '), bits)
+        & vector_texts::starts_with(vector_texts::text_behind(text, b' '), letter)
 }
 
 // Whether what stands beside a word says this answer, `part` being the last part that is then held: `begun C N`, `joined C BITS MARK` or `refused N`.
 fn says(text: &[u8], answer: WordAnswer, part: u64) -> bool {
-    let rest = test_vectors::later_fields(text);
+    let rest = vector_texts::text_behind(text, b' ');
     match answer {
         WordAnswer::Incomplete => {
-            test_vectors::starts_with(text, b'b')
-                & test_vectors::is_number(test_vectors::later_fields(rest), part)
+            vector_texts::starts_with(text, b'b')
+                & is_number(vector_texts::text_behind(rest, b' '), part)
         }
         WordAnswer::Complete(group) => {
-            test_vectors::starts_with(text, b'j')
+            vector_texts::starts_with(text, b'j')
                 & is_joined(
-                    test_vectors::later_fields(rest),
+                    vector_texts::text_behind(rest, b' '),
                     group.bits,
                     group.parity_good,
                 )
         }
         WordAnswer::Refused(refusal) => {
             let number = refusals::number(refusal);
-            test_vectors::starts_with(text, b'r') & test_vectors::is_number(rest, number as u64)
+            vector_texts::starts_with(text, b'r') & is_number(rest, number as u64)
         }
     }
 }
@@ -53,16 +59,20 @@ fn says(text: &[u8], answer: WordAnswer, part: u64) -> bool {
 // Takes one line: a word in hexadecimal, and the answer that it must get.
 fn take_line(progress: Progress, line: &[u8]) -> Progress {
     let held = progress.held;
-    let word = test_vectors::read_number(test_vectors::first_field(line), 16);
-    let step = held.take(test_vectors::low_32(word));
+    let word = vector_texts::read_number(vector_texts::text_before(line, b' '), 16, 4294967295);
+    let step = held.take((word.value % 4294967296) as u32);
     let next = step.next;
     let answer = step.answer;
     let partial = next.group_c;
-    let right = says(test_vectors::later_fields(line), answer, last_part(partial));
+    let right = says(
+        vector_texts::text_behind(line, b' '),
+        answer,
+        last_part(partial),
+    );
     let tally = progress.tally;
     Progress {
         held: next,
-        tally: test_vectors::with_line(tally, test_vectors::is_u32(word) & right),
+        tally: test_vectors::with_line(tally, word.good & right),
     }
 }
 
@@ -70,12 +80,17 @@ fn take_line(progress: Progress, line: &[u8]) -> Progress {
 fn tally_of(text: &[u8]) -> Tally {
     let mut progress = Progress {
         held: Reassembler::new(),
-        tally: test_vectors::no_lines(),
+        tally: Tally {
+            lines: 0,
+            wrong: 0,
+            first: 0,
+        },
     };
     let mut start = 0;
     while start < text.len() {
-        progress = take_line(progress, test_vectors::line_at(text, start));
-        start = test_vectors::next_line(text, start);
+        let line = vector_texts::text_before(&text[start..], b'\n');
+        progress = take_line(progress, line);
+        start = text.len() - vector_texts::text_behind(&text[start..], b'\n').len();
     }
     progress.tally
 }
@@ -84,7 +99,7 @@ fn tally_of(text: &[u8]) -> Tally {
 fn check_file(name: &[u8]) {
     let mut text = [0u8; 32768];
     let length = test_vectors::read_file(name, &mut text);
-    test_vectors::report(name, tally_of(test_vectors::part_of(&text, 0, length)));
+    test_vectors::report(name, tally_of(&text[..length]));
 }
 
 fn main() {

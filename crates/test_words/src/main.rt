@@ -71,29 +71,32 @@ fn is_right(expected: Expected) -> bool
 
 // Whether a line is well formed and right about its word.
 fn is_line_right(line: &[u8]) -> bool {
-    let rest = test_vectors::later_fields(line);
-    let count = test_vectors::later_fields(rest);
-    let word = test_vectors::read_number(test_vectors::first_field(line), 16);
-    let refusal = test_vectors::read_number(test_vectors::first_field(rest), 10);
-    let size = test_vectors::read_size(count);
+    let rest = vector_texts::text_behind(line, b' ');
+    let count = vector_texts::text_behind(rest, b' ');
+    let word = vector_texts::read_number(vector_texts::text_before(line, b' '), 16, 4294967295);
+    let refusal = vector_texts::read_number(vector_texts::text_before(rest, b' '), 10, 4294967295);
+    let size = vector_texts::read_size(count, 4294967295);
     let right = is_right(Expected {
-        word: test_vectors::low_32(word),
-        refusal: test_vectors::low_32(refusal),
-        negative: test_vectors::starts_with(count, b'-'),
-        size: test_vectors::low_32(size),
+        word: (word.value % 4294967296) as u32,
+        refusal: (refusal.value % 4294967296) as u32,
+        negative: vector_texts::starts_with(count, b'-'),
+        size: (size.value % 4294967296) as u32,
     });
-    (test_vectors::is_u32(word) & test_vectors::is_u32(refusal))
-        & (test_vectors::is_u32(size) & right)
+    (word.good & refusal.good) & (size.good & right)
 }
 
 // The tally of a text's lines.
 fn tally_of(text: &[u8]) -> Tally {
-    let mut tally = test_vectors::no_lines();
+    let mut tally = Tally {
+        lines: 0,
+        wrong: 0,
+        first: 0,
+    };
     let mut start = 0;
     while start < text.len() {
-        let line = test_vectors::line_at(text, start);
+        let line = vector_texts::text_before(&text[start..], b'\n');
         tally = test_vectors::with_line(tally, is_line_right(line));
-        start = test_vectors::next_line(text, start);
+        start = text.len() - vector_texts::text_behind(&text[start..], b'\n').len();
     }
     tally
 }
@@ -102,7 +105,7 @@ fn tally_of(text: &[u8]) -> Tally {
 fn check_file(name: &[u8]) {
     let mut text = [0u8; 32768];
     let length = test_vectors::read_file(name, &mut text);
-    test_vectors::report(name, tally_of(test_vectors::part_of(&text, 0, length)));
+    test_vectors::report(name, tally_of(&text[..length]));
 }
 
 fn main() {

@@ -1,0 +1,5 @@
+pub mod Texts
+pub mod Numbers
+pub mod TextLaws
+pub mod NumberLaws
+mod Examples
