@@ -46,9 +46,9 @@ fn signed_figure(millionths: i64) -> Figure
     ensures { λ r. ⌜ r ≡ signedFigure 6 millionths ⌝ }
 {
     Figure::Number {
-        negative: quantities::is_negative(millionths),
+        negative: rounding::is_negative(millionths),
         places: 6,
-        size: quantities::magnitude(millionths),
+        size: rounding::magnitude(millionths),
     }
 }
 

@@ -67,8 +67,8 @@ fn put_note(out: &mut [u8], at: usize, bytes: &[u8]) -> usize
 fn put_millionths(out: &mut [u8], at: usize, millionths: i64) -> usize
     ensures { λ r. ⌜ Writes (now (out .entry)) at (signedFixed 6 millionths) (now (out .exit)) r ⌝ }
 {
-    let negative = quantities::is_negative(millionths);
-    let size = quantities::magnitude(millionths);
+    let negative = rounding::is_negative(millionths);
+    let size = rounding::magnitude(millionths);
     numerals::put_signed(out, at, negative, 6, size)
 }
 

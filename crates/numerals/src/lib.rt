@@ -20,9 +20,8 @@ fn put_three(out: &mut [u8], at: usize, number: u64) -> usize
     put_digit(out, third, number)
 }
 
-// A number below a thousand.
-fn put_small(out: &mut [u8], at: usize, number: u64) -> usize
-    requires { ⌜ number < 1000 ⌝ }
+// A decimal number with no leading zeros.
+pub fn put_decimal(out: &mut [u8], at: usize, number: u64) -> usize
     ensures { λ r. ⌜ Writes (now (out .entry)) at (decimal number) (now (out .exit)) r ⌝ }
 {
     if number < 10 {
@@ -32,15 +31,8 @@ fn put_small(out: &mut [u8], at: usize, number: u64) -> usize
         let units = put_digit(out, at, number / 10);
         return put_digit(out, units, number);
     }
-    put_three(out, at, number)
-}
-
-// A decimal number with no leading zeros.
-pub fn put_decimal(out: &mut [u8], at: usize, number: u64) -> usize
-    ensures { λ r. ⌜ Writes (now (out .entry)) at (decimal number) (now (out .exit)) r ⌝ }
-{
     if number < 1000 {
-        return put_small(out, at, number);
+        return put_three(out, at, number);
     }
     let next = put_decimal(out, at, number / 1000);
     put_three(out, next, number)
@@ -50,9 +42,12 @@ pub fn put_decimal(out: &mut [u8], at: usize, number: u64) -> usize
 pub fn put_octal3(out: &mut [u8], at: usize, number: u32) -> usize
     ensures { λ r. ⌜ Writes (now (out .entry)) at (octal3 number) (now (out .exit)) r ⌝ }
 {
-    let second = text::put_byte(out, at, (48 + number / 8 / 8 % 8) as u8);
-    let third = text::put_byte(out, second, (48 + number / 8 % 8) as u8);
-    text::put_byte(out, third, (48 + number % 8) as u8)
+    let digits = [
+        (48 + number / 8 / 8 % 8) as u8,
+        (48 + number / 8 % 8) as u8,
+        (48 + number % 8) as u8,
+    ];
+    text::put_text(out, at, &digits)
 }
 
 // A number's digits with a point before the last ones, as many as there are places.
@@ -71,16 +66,6 @@ fn put_pointed(out: &mut [u8], at: usize, places: u8, number: u64) -> usize
     put_digit(out, last, number)
 }
 
-// A number of units of 1/10^places.
-pub fn put_fixed(out: &mut [u8], at: usize, places: u8, number: u64) -> usize
-    ensures { λ r. ⌜ Writes (now (out .entry)) at (fixed places number) (now (out .exit)) r ⌝ }
-{
-    if places == 0 {
-        return put_decimal(out, at, number);
-    }
-    put_pointed(out, at, places, number)
-}
-
 // A minus, or nothing.
 fn put_sign(out: &mut [u8], at: usize, negative: bool) -> usize
     ensures { λ r. ⌜ Writes (now (out .entry)) at (sign negative) (now (out .exit)) r ⌝ }
@@ -96,7 +81,10 @@ pub fn put_signed(out: &mut [u8], at: usize, negative: bool, places: u8, size: u
     ensures { λ r. ⌜ Writes (now (out .entry)) at (sign negative ++ fixed places size) (now (out .exit)) r ⌝ }
 {
     let whole = put_sign(out, at, negative);
-    put_fixed(out, whole, places, size)
+    if places == 0 {
+        return put_decimal(out, whole, size);
+    }
+    put_pointed(out, whole, places, size)
 }
 
 // A text, and a decimal number behind it.

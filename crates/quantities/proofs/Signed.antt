@@ -1,40 +1,15 @@
--- The sign and the size of a number that 64 bits hold in two's complement.
-use mathlib.Core.Path.{_≡_, refl, sym, ap, _∙_}
+-- A number of a sign and a size as 64 or 16 bits hold it in two's complement.
+use mathlib.Core.Path.{_≡_, ap, _∙_}
 use mathlib.Core.Bool.{Bool, true, false}
-use Prim.Native.Nat.{ℕ, zero, suc, _-_, _≤_, _<_, _^_, zero-le}
+use Prim.Native.Nat.{ℕ, zero, suc, _≤_, _<_, _^_}
 use native.Mathlib.Omega.{arith}
-use borrow.Author.Tests.{le-ltb}
-use lib.Dec.{T}
-use lib.IntN.{ℤ, pos, negsuc, negℤ, natAbs, _-ℤ_, +ℤ-idl}
-use lib.Signed.{ltZ, nonNeg, natAbs-le}
+use lib.IntN.{ℤ, pos, negℤ, natAbs, _-ℤ_, +ℤ-idl}
+use lib.Signed.{natAbs-le}
 use mir.Syntax.{w16, w64}
 use mir.Val.{SFits, toZ, ofZ}
 use mir.Facts.{toZ-ofZ, toZ-pos, sfits-widen}
-use Rattle.rounding.specs.Parts.{isNegative, withSign}
+use Rattle.rounding.specs.Parts.{withSign}
 use Rattle.quantities.specs.Scale.{widest}
-
-pub sign-test : (z : ℤ) → ltZ z (pos 0) ≡ isNegative z
-sign-test (pos n) = le-ltb n 0 zero-le
-sign-test (negsuc n) = refl
-
--- what the test of the number's bits says of its sign
-pub sign : (z : ℤ) (b : Bool) → SFits w64 z → ltZ (toZ w64 (ofZ w64 z)) (pos 0) ≡ b → isNegative z ≡ b
-sign z b f h = sym (sign-test z) ∙ ap (λ (y : ℤ). ltZ y (pos 0)) (sym (toZ-ofZ f)) ∙ h
-
-clash : false ≡ true → ⊥
-clash e = let z : _≡_ {A = ℕ} 0 1 = cc in omega arith
-
--- the complement of a negative number is its size less 1
-pub complement : (z : ℤ) → SFits w64 z → isNegative z ≡ true → (toZ w64 (18446744073709551615 - ofZ w64 z) ≡ pos (natAbs z - 1)) × (0 < natAbs z) × (natAbs z ≤ 2 ^ 63)
-complement (pos n) f h = absurd (clash h)
-complement (negsuc n) f h =
-    let l : n < 2 ^ 63 = f .sfits in
-    let e : 18446744073709551615 - (2 ^ 64 - suc n) ≡ suc n - 1 = omega arith in
-    (ap (toZ w64) e ∙ toZ-pos w64 {n = suc n - 1} (omega arith), omega arith, omega arith)
-
-pub not-negative : (z : ℤ) → isNegative z ≡ false → T (nonNeg z)
-not-negative (pos n) h = tt
-not-negative (negsuc n) h = clash (sym h)
 
 pub withSign-fits : (negative : Bool) (size : ℕ) → size < 2 ^ 63 → SFits w64 (withSign negative size)
 withSign-fits false size h = record { sfits = h }

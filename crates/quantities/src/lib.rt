@@ -1,7 +1,6 @@
 ghost use mathlib.Core.Path.{_≡_};
 ghost use Prim.Native.Nat.{_≤_, _<_, _^_, min};
-ghost use lib.IntN.{natAbs};
-ghost use Rattle.rounding.specs.Parts.{isNegative, withSign};
+ghost use Rattle.rounding.specs.Parts.{withSign};
 ghost use Rattle.quantities.specs.Scale.{thirteenBits, mlsScale, scaleOf, onCircle, lastCount, widest, Sound};
 ghost use Rattle.quantities.specs.Nearest.{lineNearest, wrap, farthest, circleNearest, nearestCount, millionthsOf};
 
@@ -63,23 +62,6 @@ pub fn scale_of(quantity: Quantity) -> Scale
         Quantity::MlsAzimuth => mls_scale(),
         Quantity::MlsGlide => mls_scale(),
     }
-}
-
-// Whether a number is below 0.
-pub fn is_negative(number: i64) -> bool
-    ensures { λ r. ⌜ r ≡ isNegative number ⌝ }
-{
-    number < 0
-}
-
-// The number without its sign.
-pub fn magnitude(number: i64) -> u64
-    ensures { λ r. ⌜ r ≡ natAbs number ⌝ }
-{
-    if number < 0 {
-        return (!number) as u64 + 1;
-    }
-    number as u64
 }
 
 // The number of this size and sign.
@@ -194,8 +176,8 @@ pub fn nearest_count(quantity: Quantity, figure: i64) -> Nearest
     ensures { λ r. ⌜ r ≡ nearestCount quantity figure ⌝ }
 {
     let scale = scale_of(quantity);
-    let negative = is_negative(figure);
-    let size = magnitude(figure);
+    let negative = rounding::is_negative(figure);
+    let size = rounding::magnitude(figure);
     if is_on_circle(quantity) {
         return nearest_on_circle(scale, negative, size);
     }
@@ -210,6 +192,6 @@ pub fn millionths(quantity: Quantity, count: i16) -> i64
     let numerator = scale.numerator;
     let denominator = scale.denominator;
     let number = count as i64;
-    let size = rounding::round_half_even(magnitude(number) * numerator, denominator);
-    with_sign(is_negative(number), size)
+    let size = rounding::round_half_even(rounding::magnitude(number) * numerator, denominator);
+    with_sign(rounding::is_negative(number), size)
 }

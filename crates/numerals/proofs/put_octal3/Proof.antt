@@ -1,58 +1,50 @@
--- Three bytes in a row.
+-- A text of three bytes.
 -- Assumes nothing.
 use borrow.Author.Needs.{needs}
-use Rattle.text.specs.Writing.{joined}
 use Rattle.numerals.proofs.put_octal3.Statement.{statement}
 use Rattle.numerals.proofs.put_octal3.Tie as tie
 
-add-put-byte : tie.Need-add-put-byte
-add-put-byte c = search needs
+add-t8 : tie.Need-add-t8
+add-t8 c = search needs
 
-cast-put-byte : tie.Need-cast-put-byte
-cast-put-byte c = search needs
+cast-t9 : tie.Need-cast-t9
+cast-t9 c = search needs
 
-put-byte-requires : tie.Need-put-byte-requires
-put-byte-requires c κs = search needs
+add-t12 : tie.Need-add-t12
+add-t12 c = search needs
 
-add-put-byte-2 : tie.Need-add-put-byte-2
-add-put-byte-2 c = search needs
+cast-t13 : tie.Need-cast-t13
+cast-t13 c = search needs
 
-cast-put-byte-2 : tie.Need-cast-put-byte-2
-cast-put-byte-2 c = search needs
+add-t15 : tie.Need-add-t15
+add-t15 c = search needs
 
-put-byte-requires-2 : tie.Need-put-byte-requires-2
-put-byte-requires-2 c κs = search needs
+cast-t16 : tie.Need-cast-t16
+cast-t16 c = search needs
 
-add-put-byte-3 : tie.Need-add-put-byte-3
-add-put-byte-3 c = search needs
+slice-aggregate-put-text : tie.Need-slice-aggregate-put-text
+slice-aggregate-put-text c = search needs
 
-cast-put-byte-3 : tie.Need-cast-put-byte-3
-cast-put-byte-3 c = search needs
-
-put-byte-requires-3 : tie.Need-put-byte-requires-3
-put-byte-requires-3 c κs = search needs
+put-text-requires : tie.Need-put-text-requires
+put-text-requires c κs = tt
 
 same-length : tie.Need-same-length
 same-length c = search needs
 
 returns : tie.Need-returns
-returns c =
-    joined
-    (joined (c .before .before .before .before .before .before .before .before .before .before .put-byte .ensures) (c .before .before .before .before .before .before .put-byte2 .ensures))
-    (c .before .before .put-byte3 .ensures)
+returns c = c .before .before .put-text .ensures
 
 pub put-octal3-spec : {M : Type 1} → statement M
 put-octal3-spec =
     tie.close
     (tie.spec
-    add-put-byte
-    cast-put-byte
-    put-byte-requires
-    add-put-byte-2
-    cast-put-byte-2
-    put-byte-requires-2
-    add-put-byte-3
-    cast-put-byte-3
-    put-byte-requires-3
+    add-t8
+    cast-t9
+    add-t12
+    cast-t13
+    add-t15
+    cast-t16
+    slice-aggregate-put-text
+    put-text-requires
     same-length
     returns)

@@ -1,11 +1,11 @@
--- `quantities::magnitude`: a negative number's complement is its size less 1.
+-- `rounding::magnitude`: a negative number's complement is its size less 1.
 use mathlib.Core.Bool.{true, false}
 use native.Mathlib.Omega.{arith}
 use borrow.Author.Needs.{needs}
 use mir.Facts.{toZ-ofZ, fits-natAbs}
-use Rattle.quantities.proofs.Signed.{sign, complement, not-negative}
-use Rattle.quantities.proofs.magnitude.Statement.{statement}
-use Rattle.quantities.proofs.magnitude.Tie as tie
+use Rattle.rounding.proofs.Signed.{sign, complement, not-negative}
+use Rattle.rounding.proofs.magnitude.Statement.{statement}
+use Rattle.rounding.proofs.magnitude.Tie as tie
 
 cast-result : tie.Need-cast-result
 cast-result c =
