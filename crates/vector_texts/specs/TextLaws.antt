@@ -76,5 +76,5 @@ pub later-starts : (x : ℕ) (t : List ℕ) (i : ℕ) → i < length t → lengt
 later-starts x t i h =
     let left : length (drop i t) ≡ length t - i = length-drop i t in
     let rest : length (textBehind x (take (length t - i) (drop i t))) ≡ length (textBehind x (drop i t)) =
-        ap (λ (r : List ℕ). length (textBehind x r)) (take-all (length t - i) (drop i t) (omega arith)) in
+    ap (λ (r : List ℕ). length (textBehind x r)) (take-all (length t - i) (drop i t) (omega arith)) in
     omega (arith, behind-shorter x (drop i t) (omega arith))
