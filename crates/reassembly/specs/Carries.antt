@@ -29,7 +29,7 @@ use Rattle.reassembly_parts.specs.declared.Part.{Part}
 use Rattle.reassembly_parts.specs.declared.Part.the-variants.{One, Two, Three, Four}
 use Rattle.reassembly.specs.declared.PartIn.{PartIn}
 use Rattle.reassembly.specs.declared.PartIn.the-variants.{Carried, Refused}
-use Rattle.reassembly.specs.Parts.{partKind, onlyParts, partOf, partRead, partWith, parity-broken}
+use Rattle.reassembly.specs.Parts.{onlyParts, partOf, partRead, partWith, parity-broken}
 use Rattle.reassembly.specs.Bits.{first-content}
 
 -- A word that a row of the table allows: odd parity, the row's label, zeros from the bit `from` to bit 13, and the row's code in bits 31, 30.
@@ -60,7 +60,7 @@ unlessRefused (Decoded.Refused f) p = Refused f
 pub record PartKind (k : Kind) (from code : ℕ) (p : ℕ → Part) : Type 0 where
   pub zeros-are : (w : ℕ) → clear (wordLayout k) w ≡ eqb (bits from 13 w) 0
   pub code-is : (w : ℕ) → judgement (rules k w) ≡ cond (eqb (bits 30 31 w) code) Judgement.Kept (Judgement.Broken Code)
-  pub known-is : partKind k ≡ Known k
+  pub known-is : onlyParts (Known k) ≡ Known k
   pub part-is : (w : ℕ) → partOf (bits 9 10 w) (bodyOf k w) ≡ Carried (p w)
 
 and-true : (b : Bool) → (b && true) ≡ b

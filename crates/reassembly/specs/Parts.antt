@@ -2,11 +2,14 @@
 -- Assumes nothing.
 use Prim.Native.Nat.{ℕ, _+_, _*_}
 use mathlib.Core.Path.{_≡_}
-use mathlib.Core.Bool.{false}
+use mathlib.Core.Bool.{false, cond}
+use mathlib.Core.List.{List, [], _∷_}
+use lib.Dec.{eqb}
 use Rattle.bits.specs.Parity.{odd}
+use Rattle.records.specs.All.{placeOf}
 use Rattle.records.specs.declared.Body.{Body}
 use Rattle.records.specs.declared.Kind.{Kind}
-use Rattle.records.specs.declared.Kind.the-variants.{VorAzimuth, VorFrequency, IlsCourse, IlsGlide, IlsFrequency, MlsFrequency, MlsAzimuthDeviation, MlsGlideDeviation, SelectedAzimuth, GreatestGlideAngle, SelectedGlideAngle, Part1, Part2, Part3, Part4}
+use Rattle.records.specs.declared.Kind.the-variants.{Part1, Part2, Part3, Part4}
 use Rattle.refusals.specs.declared.Refusal.the-variants.{Parity, Label}
 use Rattle.labels.specs.Label.{labelOf}
 use Rattle.labels.specs.Assignment.{Assignment, document01}
@@ -18,26 +21,14 @@ use Rattle.reassembly_parts.specs.declared.Part.the-variants.{One, Two, Three, 
 use Rattle.reassembly.specs.declared.PartIn.{PartIn}
 use Rattle.reassembly.specs.declared.PartIn.the-variants.{Carried, Refused}
 
--- Here the four parts alone have a label: a word of any other kind is one of unknown label, whatever else is wrong with it.
-abbrev pub partKind : Kind → Lookup
-partKind Part1 = Known Part1
-partKind Part2 = Known Part2
-partKind Part3 = Known Part3
-partKind Part4 = Known Part4
-partKind VorAzimuth = Unknown
-partKind VorFrequency = Unknown
-partKind IlsCourse = Unknown
-partKind IlsGlide = Unknown
-partKind IlsFrequency = Unknown
-partKind MlsFrequency = Unknown
-partKind MlsAzimuthDeviation = Unknown
-partKind MlsGlideDeviation = Unknown
-partKind SelectedAzimuth = Unknown
-partKind GreatestGlideAngle = Unknown
-partKind SelectedGlideAngle = Unknown
+-- the kind, if it is one of the list
+abbrev pub among : List Kind → Kind → Lookup
+among [] k = Unknown
+among (j ∷ js) k = cond (eqb (placeOf k) (placeOf j)) (Known k) (among js k)
 
+-- Here the four parts alone have a label: a word of any other kind is one of unknown label, whatever else is wrong with it.
 abbrev pub onlyParts : Lookup → Lookup
-onlyParts (Known k) = partKind k
+onlyParts (Known k) = among (Part1 ∷ Part2 ∷ Part3 ∷ Part4 ∷ []) k
 onlyParts Unknown = Unknown
 
 -- The part that a record carries: its source and its 16 bits, in part one the word number below the content, and in part four whether the parity was good.

@@ -10,7 +10,7 @@ use records::Body;
 use records::Kind;
 use refusals::Refusal;
 ghost use mathlib.Core.Path.{_≡_};
-ghost use Rattle.reassembly.specs.Parts.{partKind, onlyParts, partOf, partIn};
+ghost use Rattle.reassembly.specs.Parts.{onlyParts, partOf, partIn};
 ghost use Rattle.reassembly.specs.Step.{new, answerOf, stepped, takeWord};
 
 // What a word is to a reassembly.
@@ -42,25 +42,15 @@ pub struct WordStep {
     pub answer: WordAnswer,
 }
 
-// The kind of a part; any other kind as an unknown label.
-fn part_kind(kind: Kind) -> Lookup
-    ensures { λ r. ⌜ r ≡ partKind kind ⌝ }
-{
-    match kind {
-        Kind::Part1 => Lookup::Known(Kind::Part1),
-        Kind::Part2 => Lookup::Known(Kind::Part2),
-        Kind::Part3 => Lookup::Known(Kind::Part3),
-        Kind::Part4 => Lookup::Known(Kind::Part4),
-        _ => Lookup::Unknown,
-    }
-}
-
-// What a label stands for among the parts.
+// What a label stands for among the parts: any other kind is an unknown label.
 fn only_parts(lookup: Lookup) -> Lookup
     ensures { λ r. ⌜ r ≡ onlyParts lookup ⌝ }
 {
     match lookup {
-        Lookup::Known(kind) => part_kind(kind),
+        Lookup::Known(kind) => match kind {
+            Kind::Part1 | Kind::Part2 | Kind::Part3 | Kind::Part4 => Lookup::Known(kind),
+            _ => Lookup::Unknown,
+        },
         Lookup::Unknown => Lookup::Unknown,
     }
 }
