@@ -25,7 +25,7 @@ use Rattle.chart.specs.Words.{chartPoint, word-order}
 use Rattle.chart.specs.Words as chart-words
 use Rattle.quantities.specs.declared.Quantity.{Quantity}
 use Rattle.figures.specs.Coding.{codedUnder, codedOf}
-use Rattle.reassembly.specs.Parts.{partIn}
+use Rattle.part_words.specs.Parts.{partIn}
 use Rattle.reassembly.specs.Step.{takeWord}
 use Rattle.reassembly.specs.declared.Reassembler.{Reassembler}
 use Rattle.contents.specs.Contents.{wordIn, figureIn}

@@ -21,8 +21,8 @@ use Rattle.figures.specs.Coding.{labelFor}
 use Rattle.reassembly_parts.specs.Sequence.{InSequence}
 use Rattle.reassembly_parts.specs.declared.Group.{Group}
 use Rattle.reassembly_parts.specs.declared.Part.{Part}
-use Rattle.reassembly.specs.Carries.{Carries}
-use Rattle.reassembly.specs.declared.PartIn.{PartIn}
+use Rattle.part_words.specs.Carries.{Carries}
+use Rattle.part_words.specs.declared.PartIn.{PartIn}
 use Rattle.reassembly.specs.declared.Reassembler.{Reassembler}
 use Rattle.reassembly.specs.declared.WordAnswer.{WordAnswer}
 use Rattle.contents.specs.declared.WordIn.{WordIn}

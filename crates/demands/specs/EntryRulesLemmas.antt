@@ -33,11 +33,11 @@ use Rattle.reassembly_parts.specs.Take.{takeOf}
 use Rattle.reassembly_parts.specs.declared.Answer.{Answer}
 use Rattle.reassembly_parts.specs.declared.Part.{Part}
 use Rattle.reassembly_parts.specs.declared.Step.{Step}
-use Rattle.reassembly.specs.Carries.{Carries, PartKind, part1, part2, part3, part4, agrees-tested, other-label, carries}
-use Rattle.reassembly.specs.Carries as reassembly-carries
-use Rattle.reassembly.specs.Parts.{partIn, parity-broken}
+use Rattle.part_words.specs.Carries.{Carries, PartKind, part1, part2, part3, part4, agrees-tested, other-label, carries}
+use Rattle.part_words.specs.Carries as reassembly-carries
+use Rattle.part_words.specs.Parts.{partIn, parity-broken}
 use Rattle.reassembly.specs.Step.{answerOf, stepOf, takeWord}
-use Rattle.reassembly.specs.declared.PartIn.{PartIn}
+use Rattle.part_words.specs.declared.PartIn.{PartIn}
 use Rattle.reassembly.specs.declared.Reassembler.{Reassembler}
 use Rattle.reassembly.specs.declared.WordAnswer.{WordAnswer}
 use Rattle.contents.specs.Contents.{wordIn, figureIn}

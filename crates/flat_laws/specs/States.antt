@@ -12,10 +12,10 @@ use Rattle.reassembly_parts.specs.Take.{dropped, fromSame, takeOf}
 use Rattle.reassembly_parts.specs.declared.Part.{Part}
 use Rattle.reassembly_parts.specs.declared.Reassembly.{Reassembly}
 use Rattle.reassembly_parts.specs.declared.Step.{Step}
-use Rattle.reassembly.specs.Carries.{Carries, carries}
-use Rattle.reassembly.specs.Parts.{partIn}
+use Rattle.part_words.specs.Carries.{Carries, carries}
+use Rattle.part_words.specs.Parts.{partIn}
 use Rattle.reassembly.specs.Step.{stepOf, takeWord}
-use Rattle.reassembly.specs.declared.PartIn.{PartIn}
+use Rattle.part_words.specs.declared.PartIn.{PartIn}
 use Rattle.reassembly.specs.declared.Reassembler.{Reassembler}
 use Rattle.flat_reassembly.specs.Steps.{first, second, third, joined, stateOf, partialOf, heldBy, reassembled}
 use Rattle.flat_reassembly.specs.declared.Partial.{Partial}

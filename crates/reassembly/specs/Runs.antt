@@ -17,15 +17,15 @@ use Rattle.reassembly_parts.specs.declared.Part.{Part}
 use Rattle.reassembly_parts.specs.declared.Part.the-variants.{One, Two, Three, Four}
 use Rattle.reassembly_parts.specs.Run.{Input, part, other, Reply, answered, own, groupOf, replyOf, nextOf, replies, heldAfter, others, firstThree, firstThreeAnswers, words-completed, nothing-held as parts-held}
 use Rattle.reassembly_parts.specs.Provenance.{CompletedBy, completed-only-by}
-use Rattle.reassembly.specs.declared.PartIn.{PartIn}
-use Rattle.reassembly.specs.declared.PartIn.the-variants.{Carried, Refused}
+use Rattle.part_words.specs.declared.PartIn.{PartIn}
+use Rattle.part_words.specs.declared.PartIn.the-variants.{Carried, Refused}
 use Rattle.reassembly.specs.declared.Reassembler.{Reassembler}
 use Rattle.reassembly.specs.declared.WordAnswer.{WordAnswer}
 use Rattle.reassembly.specs.declared.WordAnswer.the-variants.{Incomplete, Complete}
-use Rattle.reassembly.specs.Parts.{partIn}
+use Rattle.part_words.specs.Parts.{partIn}
 use Rattle.reassembly.specs.Step.{new, answerOf, stepOf, takeWord}
-use Rattle.reassembly.specs.Carries.{PartWord, Carries, carries}
-use Rattle.reassembly.specs.Bits.{groupFrom}
+use Rattle.part_words.specs.Carries.{PartWord, Carries, carries}
+use Rattle.part_words.specs.Bits.{groupFrom}
 
 -- what a run of words is answered, word by word
 abbrev pub answers : Reassembler → List ℕ → List WordAnswer

@@ -11,12 +11,12 @@ use Rattle.reassembly_parts.specs.declared.Reassembly.the-variants.{Empty}
 use Rattle.reassembly_parts.specs.declared.Step.{Step}
 use Rattle.reassembly_parts.specs.Take.{takeOf}
 use Rattle.reassembly_parts.specs.Sequence.{InSequence, out-of-sequence as part-refused, in-sequence as part-taken}
-use Rattle.reassembly.specs.declared.PartIn.{PartIn}
-use Rattle.reassembly.specs.declared.PartIn.the-variants.{Carried, Refused}
+use Rattle.part_words.specs.declared.PartIn.{PartIn}
+use Rattle.part_words.specs.declared.PartIn.the-variants.{Carried, Refused}
 use Rattle.reassembly.specs.declared.Reassembler.{Reassembler}
 use Rattle.reassembly.specs.declared.WordAnswer.{WordAnswer}
 use Rattle.reassembly.specs.declared.WordStep.{WordStep}
-use Rattle.reassembly.specs.Parts.{partIn}
+use Rattle.part_words.specs.Parts.{partIn}
 
 -- no part is held
 abbrev pub new : Reassembler

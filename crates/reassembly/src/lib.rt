@@ -1,6 +1,7 @@
 // MLS auxiliary data: the words of group C, labels 140 to 143, put together.
 use decode::Decoded;
 use labels::Lookup;
+use part_words::PartIn;
 use reassembly_parts::Answer;
 use reassembly_parts::Group;
 use reassembly_parts::Part;
@@ -10,16 +11,8 @@ use records::Body;
 use records::Kind;
 use refusals::Refusal;
 ghost use mathlib.Core.Path.{_≡_};
-ghost use Rattle.reassembly.specs.Parts.{onlyParts, partOf, partIn};
+ghost use Rattle.part_words.specs.Parts.{onlyParts, partOf, partIn};
 ghost use Rattle.reassembly.specs.Step.{new, answerOf, stepped, takeWord};
-
-// What a word is to a reassembly.
-pub enum PartIn {
-    // It carries a part.
-    Carried(Part),
-    // It is refused: number 1, 2, 3 or 4 of document 01.
-    Refused(Refusal),
-}
 
 // What a word is answered.
 pub enum WordAnswer {

@@ -14,7 +14,7 @@ use Rattle.records.specs.All.{kinds, agree}
 use Rattle.records.specs.declared.Kind.{Kind}
 use Rattle.labels.specs.declared.Lookup.{Lookup}
 use Rattle.labels.specs.declared.Lookup.the-variants.{Known, Unknown}
-use Rattle.reassembly.specs.Parts.{onlyParts}
+use Rattle.part_words.specs.Parts.{onlyParts}
 use Rattle.reassembly.proofs.only_parts.Statement.{statement}
 use Rattle.reassembly.proofs.only_parts.Tie as tie
 

@@ -8,7 +8,7 @@ use Rattle.labels.specs.Label.{labelOf}
 use Rattle.labels.specs.Table.{rows, findKind}
 use Rattle.decode.specs.declared.Decoded.{Decoded}
 use Rattle.decode.specs.Decode.{decodeAs}
-use Rattle.reassembly.specs.Parts.{onlyParts, partRead}
+use Rattle.part_words.specs.Parts.{onlyParts, partRead}
 use Rattle.reassembly.proofs.part_in.Statement.{statement}
 use Rattle.reassembly.proofs.part_in.Tie as tie
 

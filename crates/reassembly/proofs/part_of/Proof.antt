@@ -9,8 +9,8 @@ use types.Run.{OneOf, miss}
 use Rattle.records.proofs.Body as T
 use Rattle.records.specs.declared.Body.{Body}
 use Rattle.refusals.specs.declared.Refusal.{Refusal}
-use Rattle.reassembly.specs.declared.PartIn.{PartIn}
-use Rattle.reassembly.specs.Parts.{partOf}
+use Rattle.part_words.specs.declared.PartIn.{PartIn}
+use Rattle.part_words.specs.Parts.{partOf}
 use Rattle.reassembly.proofs.part_of.Statement.{statement}
 use Rattle.reassembly.proofs.part_of.Tie as tie
 

@@ -18,8 +18,8 @@ use Rattle.labels.specs.declared.Lookup.the-variants.{Known, Unknown}
 use Rattle.decode.specs.declared.Decoded.{Decoded}
 use Rattle.decode.specs.Decode.{decodeAs}
 use Rattle.reassembly_parts.specs.declared.Part.the-variants.{One, Two, Three, Four}
-use Rattle.reassembly.specs.declared.PartIn.{PartIn}
-use Rattle.reassembly.specs.declared.PartIn.the-variants.{Carried, Refused}
+use Rattle.part_words.specs.declared.PartIn.{PartIn}
+use Rattle.part_words.specs.declared.PartIn.the-variants.{Carried, Refused}
 
 -- the kind, if it is one of the list
 abbrev pub among : List Kind → Kind → Lookup

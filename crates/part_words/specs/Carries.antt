@@ -27,10 +27,10 @@ use Rattle.decode.specs.Rules.{rules, bodyOf}
 use Rattle.decode.specs.Decode.{judgement, recordOf, judged, decodeKind, decodeFound, decodeAs, decodeWith, parity-kept as decode-odd}
 use Rattle.reassembly_parts.specs.declared.Part.{Part}
 use Rattle.reassembly_parts.specs.declared.Part.the-variants.{One, Two, Three, Four}
-use Rattle.reassembly.specs.declared.PartIn.{PartIn}
-use Rattle.reassembly.specs.declared.PartIn.the-variants.{Carried, Refused}
-use Rattle.reassembly.specs.Parts.{onlyParts, partOf, partRead, partWith, parity-broken}
-use Rattle.reassembly.specs.Bits.{first-content}
+use Rattle.part_words.specs.declared.PartIn.{PartIn}
+use Rattle.part_words.specs.declared.PartIn.the-variants.{Carried, Refused}
+use Rattle.part_words.specs.Parts.{onlyParts, partOf, partRead, partWith, parity-broken}
+use Rattle.part_words.specs.Bits.{first-content}
 
 -- A word that a row of the table allows: odd parity, the row's label, zeros from the bit `from` to bit 13, and the row's code in bits 31, 30.
 pub record PartWord (label from code w : ℕ) : Type 0 where
