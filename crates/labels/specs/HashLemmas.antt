@@ -1,11 +1,9 @@
 -- How the code finds the kind of a word: by a hash of its lowest byte, which finds the kind that the word's label stands for (`kind-hit`, `kind-miss`).
--- And the kind of a label: by the byte that the label has in a word (`label-hit`, `label-miss`).
 -- Assumes nothing.
 use mathlib.Core.Path.{_≡_, refl, sym, ap, _∙_}
 use mathlib.Core.List.{List, [], _∷_}
-use Prim.Native.Nat.{ℕ, _*_, _/_, _%_, _<_, _≤_}
+use Prim.Native.Nat.{ℕ, _*_, _/_, _%_}
 use native.Mathlib.Nat.{div-one}
-use native.Mathlib.Omega.{arith}
 use lib.ListN.{getD}
 use Rattle.bits.specs.Fields.{bits}
 use Rattle.records.specs.All.{kinds, agree}
@@ -63,15 +61,3 @@ module _ (w : ℕ) (c : KindByte) (told : c ≡ candidateOf (w % 256)) where
       by (Known k) e =
           let b : byteOf k ≡ w % 256 = ap labelOf (only kinds (labelOf w) k e) ∙ label-byte w ∙ low-byte w in
           absurd (n (ap (λ (x : KindByte). x .1) told ∙ ap byteOf (ap (λ (x : ℕ). candidateOf x .0) (sym b) ∙ own k) ∙ b))
-
--- a label of 8 bits has its kind in a word of the byte that it is turned
-pub label-hit : (l b : ℕ) → l < 256 → b ≡ labelOf l → findKind rows (labelOf b) ≡ findKind rows l
-label-hit l b h e = ap (findKind rows) (ap labelOf e ∙ label-twice l h)
-
--- and a longer one is no kind's
-pub label-miss : (l : ℕ) → 256 ≤ l → Unknown ≡ findKind rows l
-label-miss l h = by (findKind rows l) refl
-  where
-    by : (x : Lookup) → findKind rows l ≡ x → Unknown ≡ findKind rows l
-    by Unknown e = sym e
-    by (Known k) e = absurd (omega (arith, short k, only kinds l k e))

@@ -128,6 +128,30 @@ pub fn row_of(kind: Kind) -> Row
     }
 }
 
+// The kind that a label stands for.
+pub fn find_kind(label: u32) -> Lookup
+    ensures { λ r. ⌜ r ≡ findKind rows label ⌝ }
+{
+    match label {
+        0o222 => Lookup::Known(Kind::VorAzimuth),
+        0o034 => Lookup::Known(Kind::VorFrequency),
+        0o173 => Lookup::Known(Kind::IlsCourse),
+        0o174 => Lookup::Known(Kind::IlsGlide),
+        0o033 => Lookup::Known(Kind::IlsFrequency),
+        0o036 => Lookup::Known(Kind::MlsFrequency),
+        0o151 => Lookup::Known(Kind::MlsAzimuthDeviation),
+        0o152 => Lookup::Known(Kind::MlsGlideDeviation),
+        0o153 => Lookup::Known(Kind::SelectedAzimuth),
+        0o154 => Lookup::Known(Kind::GreatestGlideAngle),
+        0o155 => Lookup::Known(Kind::SelectedGlideAngle),
+        0o140 => Lookup::Known(Kind::Part1),
+        0o141 => Lookup::Known(Kind::Part2),
+        0o142 => Lookup::Known(Kind::Part3),
+        0o143 => Lookup::Known(Kind::Part4),
+        _ => Lookup::Unknown,
+    }
+}
+
 // The label in bits 1 to 8, bit 1 its highest binary digit. Of a label it gives the byte that a word has in those bits.
 pub fn label_of(word: u32) -> u32
     ensures { λ r. ⌜ r ≡ labelOf word ⌝ }
@@ -177,17 +201,6 @@ pub fn kind_in(word: u32) -> Lookup
     if found.1 == word % 256 {
         let kind = found.0;
         Lookup::Known(kind)
-    } else {
-        Lookup::Unknown
-    }
-}
-
-// The kind that a label stands for: the one in a word that has it. A label has 8 bits.
-pub fn find_kind(label: u32) -> Lookup
-    ensures { λ r. ⌜ r ≡ findKind rows label ⌝ }
-{
-    if label < 256 {
-        kind_in(label_of(label))
     } else {
         Lookup::Unknown
     }
