@@ -9,7 +9,7 @@ use native.Mathlib.Omega.{arith}
 use borrow.Author.Tests.{eq-eqb, ne-eqb}
 use lib.Dec.{eqb}
 use lib.ListN.{length, take, drop, getD, length-drop, drop-of-length-le}
-use lib.Seq.{drop-cons, take-all, take-nil}
+use lib.Seq.{drop-cons, take-all}
 use Rattle.vector_texts.specs.Texts.{textBefore, textBehind, startsWith, unsigned}
 use Rattle.vector_texts.specs.TextLaws.{before-within}
 

@@ -9,7 +9,7 @@ use borrow.Author.Tests.{eqb-true}
 use lib.Dec.{eqb}
 use lib.ListN.{length, take, drop, length-drop}
 use lib.Seq.{take-all}
-use Rattle.vector_texts.specs.Texts.{textBefore, textBehind, startsWith, unsigned}
+use Rattle.vector_texts.specs.Texts.{textBefore, textBehind}
 
 -- whether a text has the byte x
 abbrev pub has : ℕ → List ℕ → Bool
