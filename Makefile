@@ -4,7 +4,7 @@
 VERSION = 0.1.0
 PREFIX = /usr/local
 
-# The prover makes and removes thousands of small files in each check: unless TMPDIR says where, they stand in memory, if there is room (the gate then takes a fifth less time).
+# The prover makes and removes thousands of small files in each check: unless TMPDIR says where, they stand in memory, if there is room. A check of a crate that stands on many others then takes up to half as long.
 ifeq ($(origin TMPDIR), undefined)
 scratch := $(shell tests/scratch/run)
 ifneq ($(scratch),)
