@@ -38,7 +38,7 @@ fn holds_nearest(measurement: Measurement, millionths: i64) -> bool
 pub fn agrees(word: u32, millionths: i64) -> bool
     ensures { λ r. ⌜ r ≡ agreesOf word millionths ⌝ }
 {
-    match decode::decode(word) {
+    match decoder::decode(word) {
         Decoded::Accepted(record) => {
             let body = record.body;
             holds_nearest(measurements::measurement_of(body), millionths)

@@ -116,8 +116,8 @@ pub fn chart_point(first: u32, second: u32) -> Charted
     ensures operations { λ r. ⌜ r ≡ chartPoint first second ⌝ }
     ensures values { λ r. ⌜ PointOfWords first second r ⌝ }
 {
-    let course = decode::decode(first);
-    let glide = decode::decode(second);
+    let course = decoder::decode(first);
+    let glide = decoder::decode(second);
     match course {
         Decoded::Accepted(a) => match glide {
             Decoded::Accepted(b) => chart_of(a, b),

@@ -133,7 +133,7 @@ pub fn flat_shown(shown: Shown) -> FlatReading
 pub fn reading_flat(word: u32) -> FlatReading
     ensures { λ r. ⌜ r ≡ readingIn word ⌝ }
 {
-    match decode::decode(word) {
+    match decoder::decode(word) {
         Decoded::Accepted(record) => {
             let body = record.body;
             flat_shown(readings::reading_of(body))

@@ -287,5 +287,5 @@ pub fn flat_of(decoded: Decoded) -> FlatRecord
 pub fn decode_flat(word: u32) -> FlatRecord
     ensures { λ r. ⌜ r ≡ flatOf (decodeOf word) ⌝ }
 {
-    flat_of(decode::decode(word))
+    flat_of(decoder::decode(word))
 }

@@ -53,7 +53,7 @@ fn put_word(out: &mut [u8], progress: Progress, depth: u8, content: &[u8]) -> Pr
     let words = progress.words + 1;
     match contents::word_in(content) {
         WordIn::Word(word) => {
-            let decoded = decode::decode(word);
+            let decoded = decoder::decode(word);
             let refused = progress.refused + totals::refused_one(decoded);
             let at = word_lines::put_decoded_line(
                 out,

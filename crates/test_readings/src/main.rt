@@ -88,7 +88,7 @@ fn print_shown(shown: Shown) {
 fn print_word(word: u32) {
     io::print_hex(STDOUT_FILENO, word as u64, 8);
     io::write_all(STDOUT_FILENO, b" ");
-    match decode::decode(word) {
+    match decoder::decode(word) {
         Decoded::Accepted(record) => {
             let body = record.body;
             print_shown(readings::reading_of(body));

@@ -19,7 +19,7 @@ struct Expected {
 fn refusal_of(word: u32) -> u32
     ensures { λ r. ⌜ r ≡ refusalIn (decodeOf word) ⌝ }
 {
-    match decode::decode(word) {
+    match decoder::decode(word) {
         Decoded::Accepted(_) => 0,
         Decoded::Refused(refusal) => refusals::number(refusal) as u32,
     }
@@ -39,7 +39,7 @@ fn count_in(measurement: Measurement) -> i16
 fn count_of(word: u32) -> i16
     ensures { λ r. ⌜ r ≡ countOf (decodeOf word) ⌝ }
 {
-    match decode::decode(word) {
+    match decoder::decode(word) {
         Decoded::Accepted(found) => {
             let body = found.body;
             count_in(measurements::measurement_of(body))

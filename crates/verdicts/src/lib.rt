@@ -57,7 +57,7 @@ fn measurement_verdict(measurement: Measurement, millionths: i64) -> Verdict
 fn word_verdict(word: u32, label: u8, millionths: i64) -> Verdict
     ensures { λ r. ⌜ r ≡ verdictOf (Previous.Word word) label millionths ⌝ }
 {
-    match decode::decode(word) {
+    match decoder::decode(word) {
         Decoded::Accepted(record) => {
             let body = record.body;
             if (labels::label_of(word) == label as u32) & has_reading(body) {
