@@ -4,7 +4,7 @@ use flat_contents::FlatNote;
 use flat_figures::FlatMillionths;
 use flat_listing::FlatListed;
 use flat_places::FlatPlace;
-use flat_readings::FlatPoint;
+use flat_points::FlatPoint;
 use flat_readings::FlatReading;
 use flat_reassembly::FlatStep;
 use flat_reassembly::Partial;
@@ -30,7 +30,7 @@ ghost use Rattle.flat_figures.specs.Printing.{printedOf};
 ghost use Rattle.flat_reassembly.specs.Steps.{reassembled};
 ghost use Rattle.flat_listing.specs.Listed.{flatListed};
 ghost use Rattle.flat_places.specs.Places.{flatChecked, flatWritten};
-ghost use Rattle.flat_readings.specs.Points.{flatPoint};
+ghost use Rattle.flat_points.specs.Points.{flatPoint};
 ghost use Rattle.flat_readings.specs.Readings.{readingIn};
 ghost use Rattle.flat_records.specs.Numbers.{flatOf};
 ghost use Rattle.flat_walks.specs.Walks.{flatWalk, stepped};
@@ -65,7 +65,7 @@ pub extern "C" fn lampcygnet_reading_of(word: u32) -> FlatReading
 pub extern "C" fn lampcygnet_chart_point(course: u32, glide: u32) -> FlatPoint
     ensures { λ r. ⌜ r ≡ flatPoint (chartPoint course glide) ⌝ }
 {
-    flat_readings::chart_flat(course, glide)
+    flat_points::chart_flat(course, glide)
 }
 
 // The word that a figure in millionths is coded to, under a label and a source, or its refusal.

@@ -54,9 +54,9 @@ use Rattle.flat_words.specs.declared.FlatWord.{FlatWord}
 use Rattle.flat_laws.specs.Back.{Bounded}
 use Rattle.flat_laws.specs.Refusals.{accepted-number}
 use Rattle.flat_laws.specs.Words.{encode-alike}
-use Rattle.flat_readings.specs.Points.{flatPoint}
+use Rattle.flat_points.specs.Points.{flatPoint}
 use Rattle.flat_readings.specs.Readings.{nought, flatReading, absent, flatShown, flatRead, readingIn}
-use Rattle.flat_readings.specs.declared.FlatPoint.{FlatPoint}
+use Rattle.flat_points.specs.declared.FlatPoint.{FlatPoint}
 use Rattle.flat_readings.specs.declared.FlatReading.{FlatReading}
 use Rattle.flat_figures.specs.Printing.{holds, printedMeasured, printedOf}
 use Rattle.flat_figures.specs.Printing as printing

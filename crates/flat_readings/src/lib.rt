@@ -1,14 +1,11 @@
-// Readings and the chart point as numbers, for other languages.
-use chart::Charted;
+// Readings as numbers, for other languages.
 use decode::Decoded;
 use readings::Reading;
 use readings::Shown;
 use views::Setting;
 ghost use mathlib.Core.Path.{_≡_};
 ghost use lib.IntN.{pos};
-ghost use Rattle.chart.specs.Words.{chartPoint};
 ghost use Rattle.flat_readings.specs.Readings.{rounded, whole, flatSetting, flatReading, absent, flatShown, flatRead, readingIn};
-ghost use Rattle.flat_readings.specs.Points.{flatPoint};
 
 // A reading as numbers. Zero stands in every field where there is none, and beside a refusal in every other field.
 #[repr(C)]
@@ -25,14 +22,6 @@ pub struct FlatReading {
     pub whole: i64,
     // what units 1 and 2 read
     pub value: f64,
-}
-
-// A chart point as numbers, or its refusal's number beside zeros.
-#[repr(C)]
-pub struct FlatPoint {
-    pub refusal: u8,
-    pub course: f64,
-    pub glide: f64,
 }
 
 // A reading in doubles.
@@ -140,29 +129,4 @@ pub fn reading_flat(word: u32) -> FlatReading
         }
         Decoded::Refused(refusal) => absent(refusals::number(refusal)),
     }
-}
-
-// The numbers of a chart point, or of its refusal.
-pub fn flat_point(charted: Charted) -> FlatPoint
-    ensures { λ r. ⌜ r ≡ flatPoint charted ⌝ }
-{
-    match charted {
-        Charted::Point(point) => FlatPoint {
-            refusal: 0,
-            course: point.course,
-            glide: point.glide,
-        },
-        Charted::Refused(refusal) => FlatPoint {
-            refusal: refusals::number(refusal),
-            course: 0.0,
-            glide: 0.0,
-        },
-    }
-}
-
-// The numbers of the chart point of a course word and a glide word, or of its refusal.
-pub fn chart_flat(first: u32, second: u32) -> FlatPoint
-    ensures { λ r. ⌜ r ≡ flatPoint (chartPoint first second) ⌝ }
-{
-    flat_point(chart::chart_point(first, second))
 }

@@ -2,8 +2,8 @@
 -- Assumes nothing.
 use Rattle.refusals.specs.Numbers.{numberOf}
 use Rattle.chart.specs.declared.Charted.{Charted}
 use Rattle.flat_readings.specs.Readings.{nought}
-use Rattle.flat_readings.specs.declared.FlatPoint.{FlatPoint}
+use Rattle.flat_points.specs.declared.FlatPoint.{FlatPoint}
 
 abbrev pub flatPoint : Charted → FlatPoint
 flatPoint (Charted.Point p) = record { refusal = 0; course = p .course; glide = p .glide }

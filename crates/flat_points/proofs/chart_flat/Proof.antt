@@ -1,10 +1,10 @@
 -- The chart point, as numbers.
 -- Assumes nothing.
 use mathlib.Core.Path.{ap, _∙_}
-use Rattle.flat_readings.specs.Points.{flatPoint}
+use Rattle.flat_points.specs.Points.{flatPoint}
 use borrow.Author.Needs.{needs}
-use Rattle.flat_readings.proofs.chart_flat.Statement.{statement}
-use Rattle.flat_readings.proofs.chart_flat.Tie as tie
+use Rattle.flat_points.proofs.chart_flat.Statement.{statement}
+use Rattle.flat_points.proofs.chart_flat.Tie as tie
 
 chart-point-requires : tie.Need-chart-point-requires
 chart-point-requires c κs = search needs

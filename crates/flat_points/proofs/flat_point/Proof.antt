@@ -1,8 +1,8 @@
 -- By whether there is a point.
 -- Assumes nothing.
 use borrow.Author.Needs.{needs}
-use Rattle.flat_readings.proofs.flat_point.Statement.{statement}
-use Rattle.flat_readings.proofs.flat_point.Tie as tie
+use Rattle.flat_points.proofs.flat_point.Statement.{statement}
+use Rattle.flat_points.proofs.flat_point.Tie as tie
 
 enum-known-charted : tie.Need-enum-known-charted
 enum-known-charted c = search needs
