@@ -34,7 +34,7 @@ pub fn find_quantity(label: u64) -> Measured
     if 255 < label {
         return Measured::Nothing;
     }
-    match labels::find_kind(label as u32) {
+    match label_table::find_kind(label as u32) {
         Lookup::Known(kind) => quantity_of(kind),
         Lookup::Unknown => Measured::Nothing,
     }
@@ -73,7 +73,7 @@ fn ready_word(quantity: Quantity, label: u8, source: u8, count: i16) -> u32
     ensures { λ r. ⌜ r ≡ wordAs label (readyRecord quantity source count) ⌝ }
 {
     let lower = (ready_bits(quantity, count) * 4 + source as u32) * 256
-        + labels::label_of(label as u32);
+        + word_labels::label_of(label as u32);
     bits::parity_bit(lower) * 2147483648 + lower
 }
 

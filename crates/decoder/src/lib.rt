@@ -10,7 +10,7 @@ ghost use Rattle.decode.specs.Decode.{decodeKind, decodeAs, decodeOf};
 fn decode_kind(kind: Kind, word: u32) -> Decoded
     ensures { λ r. ⌜ r ≡ decodeKind kind word ⌝ }
 {
-    let row = labels::row_of(kind);
+    let row = label_table::row_of(kind);
     let zeros = row.zeros;
     if word & zeros != 0 {
         return Decoded::Refused(Refusal::ZeroBit);
@@ -35,5 +35,5 @@ pub fn decode_as(lookup: Lookup, word: u32) -> Decoded
 pub fn decode(word: u32) -> Decoded
     ensures { λ r. ⌜ r ≡ decodeOf word ⌝ }
 {
-    decode_as(labels::kind_in(word), word)
+    decode_as(word_labels::kind_in(word), word)
 }

@@ -194,7 +194,7 @@ fn word_of(label: u32, record: Record) -> u32
     ensures { λ r. ⌜ r ≡ wordAs label «record» ⌝ }
 {
     let body = record.body;
-    let lower = (upper_bits(body) * 4 + record.source as u32) * 256 + labels::label_of(label);
+    let lower = (upper_bits(body) * 4 + record.source as u32) * 256 + word_labels::label_of(label);
     bits::parity_bit(lower) * 2147483648 + lower
 }
 
@@ -221,6 +221,6 @@ pub fn encode(record: Record) -> Encoded
     ensures { λ r. ⌜ r ≡ encodeOf «record» ⌝ }
 {
     let body = record.body;
-    let row = labels::row_of(records::kind_of(body));
+    let row = label_table::row_of(record_kinds::kind_of(body));
     encode_as(row.label, record)
 }

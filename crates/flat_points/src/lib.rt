@@ -34,5 +34,5 @@ pub fn flat_point(charted: Charted) -> FlatPoint
 pub fn chart_flat(first: u32, second: u32) -> FlatPoint
     ensures { λ r. ⌜ r ≡ flatPoint (chartPoint first second) ⌝ }
 {
-    flat_point(chart::chart_point(first, second))
+    flat_point(chart_points::chart_point(first, second))
 }

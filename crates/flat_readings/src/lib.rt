@@ -125,7 +125,7 @@ pub fn reading_flat(word: u32) -> FlatReading
     match decoder::decode(word) {
         Decoded::Accepted(record) => {
             let body = record.body;
-            flat_shown(readings::reading_of(body))
+            flat_shown(record_readings::reading_of(body))
         }
         Decoded::Refused(refusal) => absent(refusals::number(refusal)),
     }

@@ -276,7 +276,7 @@ pub fn flat_of(decoded: Decoded) -> FlatRecord
         Decoded::Accepted(record) => {
             let source = record.source;
             let body = record.body;
-            let kind = records::place_of(records::kind_of(body));
+            let kind = record_kinds::place_of(record_kinds::kind_of(body));
             flat_numbers(kind, source, body)
         }
         Decoded::Refused(refusal) => blank(refusals::number(refusal)),

@@ -58,7 +58,7 @@ fn put_word(out: &mut [u8], progress: Progress, depth: u8, content: &[u8]) -> Pr
             let at = word_lines::put_decoded_line(
                 out,
                 progress.at,
-                labels::label_of(word),
+                word_labels::label_of(word),
                 decoded,
             );
             Progress {

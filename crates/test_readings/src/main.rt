@@ -91,7 +91,7 @@ fn print_word(word: u32) {
     match decoder::decode(word) {
         Decoded::Accepted(record) => {
             let body = record.body;
-            print_shown(readings::reading_of(body));
+            print_shown(record_readings::reading_of(body));
         }
         Decoded::Refused(refusal) => {
             io::write_all(STDOUT_FILENO, b"refused ");
@@ -104,7 +104,7 @@ fn print_word(word: u32) {
 // A line for two words.
 fn print_point(first: u32, second: u32) {
     io::write_all(STDOUT_FILENO, b"chart ");
-    match chart::chart_point(first, second) {
+    match chart_points::chart_point(first, second) {
         Charted::Point(point) => {
             let course = point.course;
             let glide = point.glide;

@@ -60,7 +60,7 @@ fn word_verdict(word: u32, label: u8, millionths: i64) -> Verdict
     match decoder::decode(word) {
         Decoded::Accepted(record) => {
             let body = record.body;
-            if (labels::label_of(word) == label as u32) & has_reading(body) {
+            if (word_labels::label_of(word) == label as u32) & has_reading(body) {
                 return measurement_verdict(measurements::measurement_of(body), millionths);
             }
             Verdict::Unmatched
