@@ -17,7 +17,7 @@ use Rattle.records.specs.declared.Kind.{Kind}
 use Rattle.records.specs.declared.Record.{Record}
 use Rattle.refusals.specs.Order.{Rule, asks, Answers, Follows, no-rules, kept-one, broken-one, tested, reworded}
 use Rattle.refusals.specs.declared.Refusal.{Refusal}
-use Rattle.codes.specs.declared.Status.{Status}
+use Rattle.statuses.specs.declared.Status.{Status}
 use Rattle.doubles.specs.Doubles.{courseOf, glideOf}
 use Rattle.readings.specs.Readings.{readingOf, shownUnder}
 use Rattle.readings.specs.Meaning.{HasReading, Holds, IsReading, Shows, CountFits, reading-right}

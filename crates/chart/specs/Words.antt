@@ -15,7 +15,7 @@ use Rattle.bits.specs.Complement.{signed, signed-holds}
 use Rattle.bits.specs.Layout.{clear}
 use Rattle.bits.specs.Parity.{odd}
 use Rattle.records.specs.Layouts.{wordLayout}
-use Rattle.codes.specs.Codes.{binaryStatus}
+use Rattle.statuses.specs.Statuses.{binaryStatus}
 use Rattle.records.specs.Kinds.{kindOf}
 use Rattle.records.specs.declared.Body.{Body}
 use Rattle.records.specs.declared.Kind.{Kind}

@@ -1,5 +1,5 @@
 // Words of a known kind whose zero bits are zero: the kind's rules, and what the word holds.
-use codes::Status;
+use statuses::Status;
 use decode::Decoded;
 use decode::Judgement;
 use frequencies::Band;
@@ -15,7 +15,7 @@ ghost use mathlib.Core.Path.{_≡_};
 ghost use mathlib.Core.Bool.{cond};
 ghost use lib.Dec.{eqb};
 ghost use Rattle.bits.specs.Fields.{bits};
-ghost use Rattle.codes.specs.Codes.{binaryStatus, decimalStatus};
+ghost use Rattle.statuses.specs.Statuses.{binaryStatus, decimalStatus};
 ghost use Rattle.decode.specs.Rules.{frequencyIn, decimal};
 ghost use Rattle.decode.specs.Decode.{judgement, judged};
 ghost use Rattle.decode.specs.Kinds.{decodeClear};
@@ -70,14 +70,14 @@ fn part_judgement(code: u32, word: u32) -> Judgement
 fn status_in(word: u32) -> Status
     ensures { λ r. ⌜ r ≡ binaryStatus (bits 30 31 word) ⌝ }
 {
-    codes::binary_status(word / 536870912 % 4)
+    statuses::binary_status(word / 536870912 % 4)
 }
 
 // The status of a decimal word, in bits 30 and 31.
 fn decimal_status_in(word: u32) -> Status
     ensures { λ r. ⌜ r ≡ decimalStatus (bits 30 31 word) ⌝ }
 {
-    codes::decimal_status(word / 536870912 % 4)
+    statuses::decimal_status(word / 536870912 % 4)
 }
 
 // The flags in bits 11, 12 and 19.

@@ -1,49 +1,16 @@
--- The codes of statuses, markers and categories, and what each code means. The lowest bit of a field is its first in document 01's print:
--- "10" in bits 30, 31 is the number 1. A number outside its list is refused with 4 before anyone asks what it means; what it is taken for here is told last.
+-- The codes of markers, categories and flags, and what each code means. The lowest bit of a field is its first in document 01's print:
+-- "10" in bits 11, 12 is the number 1. A number outside its list is refused with 4 before anyone asks what it means; what it is taken for here is told last.
 -- Assumes nothing.
 use mathlib.Core.Path.{_≡_, refl, sym}
 use mathlib.Core.Bool.{Bool, true, false, _||_, false≢true}
 use Prim.Native.Nat.{ℕ, zero, suc, _≤_, _<_}
 use native.Mathlib.Omega.{arith}
 use borrow.Author.Tests.{eqb-true, ne-eqb}
-use lib.Dec.{eqb, ltb, lit<}
-use Rattle.codes.specs.declared.Status.{Status}
-use Rattle.codes.specs.declared.Status.the-variants.{Failure, NoData, Test, Ready}
+use lib.Dec.{eqb, lit<}
 use Rattle.codes.specs.declared.Marker.{Marker}
 use Rattle.codes.specs.declared.Marker.the-variants.{None, Outer, Middle, Inner}
 use Rattle.codes.specs.declared.Category.{Category}
 use Rattle.codes.specs.declared.Category.the-variants.{NotStated, I, II, III}
-
--- ---- binary words, bits 30 and 31: 00 failure, 10 nodata, 01 test, 11 ready
-
-abbrev pub binaryCode : Status → ℕ
-binaryCode Failure = 0
-binaryCode NoData = 1
-binaryCode Test = 2
-binaryCode Ready = 3
-
-abbrev pub binaryStatus : ℕ → Status
-binaryStatus zero = Failure
-binaryStatus (suc zero) = NoData
-binaryStatus (suc (suc zero)) = Test
-binaryStatus (suc (suc (suc n))) = Ready
-
--- ---- decimal words: 00 ready, 10 nodata, 01 test; 11, ready with a minus, no frequency can have, and failure has no code, so it stands at 11
-
-abbrev pub decimalCode : Status → ℕ
-decimalCode Failure = 3
-decimalCode NoData = 1
-decimalCode Test = 2
-decimalCode Ready = 0
-
-abbrev pub decimalStatus : ℕ → Status
-decimalStatus zero = Ready
-decimalStatus (suc zero) = NoData
-decimalStatus (suc (suc zero)) = Test
-decimalStatus (suc (suc (suc n))) = Failure
-
-abbrev pub decimalListed : ℕ → Bool
-decimalListed c = ltb c 3
 
 -- ---- markers, bits 11, 12, 13: 000 none, 100 outer, 010 middle, 001 inner; nothing else
 
@@ -84,30 +51,6 @@ flagBit true = 1
 
 -- ---- each code means what it is the code of, and the other way round
 
-pub binary-code : (c : ℕ) → c < 4 → binaryCode (binaryStatus c) ≡ c
-binary-code zero h = refl
-binary-code (suc zero) h = refl
-binary-code (suc (suc zero)) h = refl
-binary-code (suc (suc (suc n))) h = omega arith
-
-pub binary-status : (s : Status) → binaryStatus (binaryCode s) ≡ s
-binary-status Failure = refl
-binary-status NoData = refl
-binary-status Test = refl
-binary-status Ready = refl
-
-pub decimal-code : (c : ℕ) → c < 4 → decimalCode (decimalStatus c) ≡ c
-decimal-code zero h = refl
-decimal-code (suc zero) h = refl
-decimal-code (suc (suc zero)) h = refl
-decimal-code (suc (suc (suc n))) h = omega arith
-
-pub decimal-status : (s : Status) → decimalStatus (decimalCode s) ≡ s
-decimal-status Failure = refl
-decimal-status NoData = refl
-decimal-status Test = refl
-decimal-status Ready = refl
-
 pub marker-code : (c : ℕ) → markerListed c ≡ true → markerCode (markerOf c) ≡ c
 marker-code zero h = refl
 marker-code (suc zero) h = refl
@@ -147,30 +90,11 @@ flag-of true = refl
 
 -- ---- a number outside its list: every function answers for every number, and these are the answers, by no rule of document 01
 
-abbrev pub unlistedBinary : Status
-unlistedBinary = Ready
-
-abbrev pub unlistedDecimal : Status
-unlistedDecimal = Failure
-
 abbrev pub unlistedMarker : Marker
 unlistedMarker = Inner
 
 abbrev pub unlistedCategory : Category
 unlistedCategory = III
-
--- bits 30 and 31 of a binary word hold no such number
-pub binary-unlisted : (c : ℕ) → 4 ≤ c → binaryStatus c ≡ unlistedBinary
-binary-unlisted zero h = absurd (omega arith)
-binary-unlisted (suc zero) h = absurd (omega arith)
-binary-unlisted (suc (suc zero)) h = absurd (omega arith)
-binary-unlisted (suc (suc (suc n))) h = refl
-
-pub decimal-unlisted : (c : ℕ) → decimalListed c ≡ false → decimalStatus c ≡ unlistedDecimal
-decimal-unlisted zero h = absurd (false≢true (sym h))
-decimal-unlisted (suc zero) h = absurd (false≢true (sym h))
-decimal-unlisted (suc (suc zero)) h = absurd (false≢true (sym h))
-decimal-unlisted (suc (suc (suc n))) h = refl
 
 pub marker-unlisted : (c : ℕ) → markerListed c ≡ false → markerOf c ≡ unlistedMarker
 marker-unlisted zero h = absurd (false≢true (sym h))
@@ -186,18 +110,6 @@ category-unlisted (suc (suc zero)) h = absurd (omega arith)
 category-unlisted (suc (suc (suc n))) h = refl
 
 -- ---- every code fits its field
-
-pub binary-lt : (s : Status) → binaryCode s < 4
-binary-lt Failure = lit< tt
-binary-lt NoData = lit< tt
-binary-lt Test = lit< tt
-binary-lt Ready = lit< tt
-
-pub decimal-lt : (s : Status) → decimalCode s < 4
-decimal-lt Failure = lit< tt
-decimal-lt NoData = lit< tt
-decimal-lt Test = lit< tt
-decimal-lt Ready = lit< tt
 
 pub marker-lt : (m : Marker) → markerCode m < 8
 marker-lt None = lit< tt

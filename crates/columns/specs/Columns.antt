@@ -5,7 +5,7 @@ use Prim.Native.Nat.{ℕ}
 use lib.IntN.{ℤ, natAbs}
 use Rattle.rounding.specs.Parts.{isNegative}
 use Rattle.records.specs.declared.Body.{Body}
-use Rattle.codes.specs.declared.Status.{Status}
+use Rattle.statuses.specs.declared.Status.{Status}
 use Rattle.quantities.specs.Nearest.{millionthsOf}
 use Rattle.quantities.specs.declared.Quantity.{Quantity}
 use Rattle.views.specs.Views.{isShown, viewOf}

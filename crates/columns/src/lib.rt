@@ -1,6 +1,6 @@
 // What a line of the listing shows of a record: its status or part, and its figure.
-use codes::Status;
 use records::Body;
+use statuses::Status;
 use views::Setting;
 use views::Value;
 use views::View;

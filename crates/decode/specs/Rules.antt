@@ -6,12 +6,13 @@ use lib.Dec.{eqb, leb}
 use Rattle.bits.specs.Fields.{bits}
 use Rattle.bits.specs.Parity.{odd}
 use Rattle.bits.specs.Complement.{signed}
-use Rattle.codes.specs.Codes.{binaryStatus, decimalStatus, decimalListed, markerOf, markerListed, categoryOf}
+use Rattle.statuses.specs.Statuses.{binaryStatus, decimalStatus, decimalListed}
+use Rattle.codes.specs.Codes.{markerOf, markerListed, categoryOf}
 use Rattle.frequencies.specs.Frequencies.{tensListed, frequencyOf, legalFrequency}
 use Rattle.frequencies.specs.declared.Band.{Band}
 use Rattle.records.specs.declared.Body.{Body}
 use Rattle.records.specs.declared.Kind.{Kind}
-use Rattle.codes.specs.declared.Status.{Status}
+use Rattle.statuses.specs.declared.Status.{Status}
 
 -- Four tests of a word: its decimal digits (refusal 5), its codes (4), its value (6) and its angle's parity (7).
 pub record Rules : Type 0 where

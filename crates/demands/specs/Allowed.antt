@@ -5,7 +5,7 @@ use Prim.Native.Nat.{ℕ, _+_, _*_, _%_, _≤_}
 use lib.Count.{ones}
 use Rattle.records.specs.declared.Kind.{Kind}
 use Rattle.codes.specs.declared.Marker.{Marker}
-use Rattle.codes.specs.declared.Status.{Status}
+use Rattle.statuses.specs.declared.Status.{Status}
 use Rattle.labels.specs.Label.{labelOf}
 use Rattle.labels.specs.Assignment.{Assignment}
 use Rattle.demands.specs.Table.{ZeroBits}

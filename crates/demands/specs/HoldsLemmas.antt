@@ -14,10 +14,11 @@ use lib.Pow.{pow-pos, mod-pow-add, shr-shr}
 use Rattle.rounding.specs.Parts.{positive-add, negative-add, positive-neg, negative-neg, parts-equal}
 use Rattle.bits.specs.Fields.{bits, digits}
 use Rattle.bits.specs.Complement as complement
-use Rattle.codes.specs.Codes.{binaryCode, binaryStatus, decimalCode, decimalStatus, markerCode, markerOf, categoryCode, categoryOf, flagBit, binary-code, binary-status, decimal-status, marker-of, category-code, category-of, flag-bit, flag-of}
+use Rattle.statuses.specs.Statuses.{binaryCode, binaryStatus, decimalCode, decimalStatus, binary-code, binary-status, decimal-status}
+use Rattle.codes.specs.Codes.{markerCode, markerOf, categoryCode, categoryOf, flagBit, marker-of, category-code, category-of, flag-bit, flag-of}
 use Rattle.codes.specs.declared.Category.{Category}
 use Rattle.codes.specs.declared.Marker.{Marker}
-use Rattle.codes.specs.declared.Status.{Status}
+use Rattle.statuses.specs.declared.Status.{Status}
 use Rattle.frequencies.specs.Frequencies.{mlsTens}
 use Rattle.frequencies.specs.declared.Band.{Band}
 use Rattle.records.specs.Kinds.{kindOf}

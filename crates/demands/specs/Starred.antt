@@ -11,7 +11,7 @@ use Rattle.refusals.specs.Numbers.{numberOf}
 use Rattle.records.specs.declared.Body.{Body}
 use Rattle.codes.specs.declared.Marker.{Marker}
 use Rattle.records.specs.declared.Record.{Record}
-use Rattle.codes.specs.declared.Status.{Status}
+use Rattle.statuses.specs.declared.Status.{Status}
 use Rattle.labels.specs.Assignment.{document01}
 use Rattle.labels.specs.Table.{rowOf}
 use Rattle.decode.specs.Decode.{decodeOf}

@@ -12,12 +12,13 @@ use lib.Dec.{eqb, leb, lit<, lit≤}
 use Rattle.bits.specs.Fields.{bits, digits}
 use Rattle.bits.specs.Laws.{both-true}
 use Rattle.bits.specs.Parity.{odd, ones-in}
-use Rattle.codes.specs.Codes.{markerOf, markerListed, marker-code, decimalCode, decimalListed}
+use Rattle.statuses.specs.Statuses.{decimalCode, decimalListed}
+use Rattle.codes.specs.Codes.{markerOf, markerListed, marker-code}
 use Rattle.frequencies.specs.Frequencies.{mlsTens, legalFrequency, mls-range}
 use Rattle.frequencies.specs.declared.Band.{Band}
 use Rattle.records.specs.declared.Kind.{Kind}
 use Rattle.codes.specs.declared.Marker.{Marker}
-use Rattle.codes.specs.declared.Status.{Status}
+use Rattle.statuses.specs.declared.Status.{Status}
 use Rattle.decode.specs.Rules.{rules, frequencyIn}
 use Rattle.roundtrip.specs.Forth.{marker-listed}
 use Rattle.demands.specs.Holds.{bit, sum, number, DecimalStatus, MarkerIs, SentAs, MlsIs}

@@ -6,7 +6,7 @@ use mathlib.Core.Bool.{Bool, true, false, _&&_}
 use mathlib.Core.Logic.{_↔_, _⊎_, inl, inr}
 use Prim.Native.Nat.{ℕ, _^_, _<_}
 use lib.Dec.{leb}
-use Rattle.codes.specs.declared.Status.{Status}
+use Rattle.statuses.specs.declared.Status.{Status}
 use Rattle.records.specs.All.{agree}
 use Rattle.records.specs.Kinds.{kindOf}
 use Rattle.records.specs.declared.Kind.{Kind}

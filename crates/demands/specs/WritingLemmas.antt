@@ -9,11 +9,11 @@ use borrow.Author.Tests.{lt-ltb, ltb-true}
 use lib.Dec.{leb, ltb, le→leb, leb→le}
 use lib.IntN.{ℤ, pos, negsuc}
 use lib.Signed.{mag, _≤ℤ_}
-use Rattle.codes.specs.Codes.{decimalCode, decimalListed}
+use Rattle.statuses.specs.Statuses.{decimalCode, decimalListed}
 use Rattle.records.specs.declared.Body.{Body}
 use Rattle.records.specs.declared.Record.{Record}
-use Rattle.codes.specs.declared.Status.{Status}
-use Rattle.codes.specs.declared.Status.the-variants.{Failure, NoData, Test, Ready}
+use Rattle.statuses.specs.declared.Status.{Status}
+use Rattle.statuses.specs.declared.Status.the-variants.{Failure, NoData, Test, Ready}
 use Rattle.encode.specs.Encode.{codesListed, valuesLegal}
 use Rattle.demands.specs.Legal.{CodesOf, ValuesOf, Vhf, LegalCodes}
 use Rattle.demands.specs.TestsLemmas.{always, both-test, at-most-test, mls-value}

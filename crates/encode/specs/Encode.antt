@@ -11,7 +11,7 @@ use lib.IntN.{ℤ}
 use lib.Signed.{mag}
 use Rattle.bits.specs.Layout.{join}
 use Rattle.bits.specs.Parity.{withParity}
-use Rattle.codes.specs.Codes.{decimalCode, decimalListed}
+use Rattle.statuses.specs.Statuses.{decimalCode, decimalListed}
 use Rattle.frequencies.specs.Frequencies.{legalFrequency}
 use Rattle.records.specs.Kinds.{kindOf}
 use Rattle.records.specs.Layouts.{upperLayout, lowerLayout}

@@ -4,7 +4,8 @@ use mathlib.Core.List.{List, [], _∷_}
 use Prim.Native.Nat.{ℕ, _/_, _%_}
 use Rattle.bits.specs.Complement.{complement}
 use Rattle.bits.specs.Parity.{withParity}
-use Rattle.codes.specs.Codes.{binaryCode, decimalCode, markerCode, categoryCode, flagBit}
+use Rattle.statuses.specs.Statuses.{binaryCode, decimalCode}
+use Rattle.codes.specs.Codes.{markerCode, categoryCode, flagBit}
 use Rattle.frequencies.specs.Frequencies.{tensCode}
 use Rattle.frequencies.specs.declared.Band.{Band}
 use Rattle.records.specs.declared.Body.{Body}

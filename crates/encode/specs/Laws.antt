@@ -11,7 +11,8 @@ use Rattle.bits.specs.Layout.{Fit, size}
 use Rattle.bits.specs.Laws.{both-true, join-lt}
 use Rattle.bits.specs.Complement.{complement-lt}
 use Rattle.bits.specs.Parity.{parity-lt}
-use Rattle.codes.specs.Codes.{binary-lt, decimal-lt, marker-lt, category-lt, flag-lt}
+use Rattle.statuses.specs.Statuses.{binary-lt, decimal-lt}
+use Rattle.codes.specs.Codes.{marker-lt, category-lt, flag-lt}
 use Rattle.frequencies.specs.Frequencies.{tens-code-lt}
 use Rattle.records.specs.All.{agree}
 use Rattle.records.specs.Kinds.{kindOf}

@@ -1,14 +1,15 @@
 // A record to its word, or to its refusal.
-use codes::Status;
 use frequencies::Band;
 use records::Body;
 use records::Record;
 use refusals::Refusal;
+use statuses::Status;
 ghost use mathlib.Core.Path.{_≡_};
 ghost use mathlib.Core.Bool.{true};
 ghost use Prim.Native.Nat.{_+_, _*_, _<_, _/_, _%_};
 ghost use Rattle.bits.specs.Complement.{complement};
-ghost use Rattle.codes.specs.Codes.{binaryCode, decimalCode, flagBit, decimalListed};
+ghost use Rattle.statuses.specs.Statuses.{binaryCode, decimalCode, decimalListed};
+ghost use Rattle.codes.specs.Codes.{flagBit};
 ghost use Rattle.frequencies.specs.Frequencies.{tensCode};
 ghost use Rattle.encode.specs.Encode.{codesListed, narrow, wide, valuesLegal, upperBits, wordAs, encodeAs, encodeOf};
 
@@ -36,7 +37,7 @@ fn is_wide(count: i16) -> bool
 fn is_decimal(status: Status) -> bool
     ensures { λ r. ⌜ r ≡ decimalListed (decimalCode status) ⌝ }
 {
-    codes::decimal_code(status) < 3
+    statuses::decimal_code(status) < 3
 }
 
 // Whether every code of a body is in its list.
@@ -91,14 +92,14 @@ fn upper_narrow(status: Status, first: u32, count: i16) -> u32
     requires { ⌜ first < 8 ⌝ }
     ensures { λ r. ⌜ r ≡ (binaryCode status * 8192 + complement 13 count) * 64 + first ⌝ }
 {
-    (codes::binary_code(status) * 8192 + bits::complement_13(count)) * 64 + first
+    (statuses::binary_code(status) * 8192 + bits::complement_13(count)) * 64 + first
 }
 
 // Bits 11 to 31 of a word with a count of 16 bits.
 fn upper_wide(status: Status, inhibit: bool, clearance: bool, count: i16) -> u32
     ensures { λ r. ⌜ r ≡ ((binaryCode status * 65536 + complement 16 count) * 4 + flagBit clearance) * 2 + flagBit inhibit ⌝ }
 {
-    let deviation = codes::binary_code(status) * 65536 + bits::complement_16(count);
+    let deviation = statuses::binary_code(status) * 65536 + bits::complement_16(count);
     (deviation * 4 + codes::flag_bit(clearance)) * 2 + codes::flag_bit(inhibit)
 }
 
@@ -107,7 +108,7 @@ fn upper_decimal(band: Band, status: Status, first: u32, frequency: u32) -> u32
     requires { ⌜ first < 4 ⌝ }
     ensures { λ r. ⌜ r ≡ ((((decimalCode status * 8 + tensCode band (frequency / 1000 % 10)) * 16 + frequency / 100 % 10) * 16 + frequency / 10 % 10) * 16 + frequency % 10) * 16 + first ⌝ }
 {
-    let tens = codes::decimal_code(status) * 8
+    let tens = statuses::decimal_code(status) * 8
         + frequencies::tens_code(band, frequency / 1000 % 10);
     let tenths = (tens * 16 + frequency / 100 % 10) * 16 + frequency / 10 % 10;
     (tenths * 16 + frequency % 10) * 16 + first
@@ -118,7 +119,7 @@ fn upper_setting(status: Status, manual: bool, value: u32) -> u32
     requires { ⌜ value < 131072 ⌝ }
     ensures { λ r. ⌜ r ≡ ((binaryCode status * 1024 + value) * 2 + flagBit manual) * 256 ⌝ }
 {
-    ((codes::binary_code(status) * 1024 + value) * 2 + codes::flag_bit(manual)) * 256
+    ((statuses::binary_code(status) * 1024 + value) * 2 + codes::flag_bit(manual)) * 256
 }
 
 // Bits 11 to 31 of a body's word.

@@ -16,8 +16,8 @@ ghost use Rattle.field_lines.specs.FieldLines.{placeText, headText, line
 fn put_place(out: &mut [u8], at: usize, place: usize, depth: u8) -> usize
     ensures { λ r. ⌜ Writes (now (out .entry)) at (placeText place depth) (now (out .exit)) r ⌝ }
 {
-    let first = numerals::put_decimal(out, at, place as u64);
-    let second = numerals::put_named(out, first, b" ", depth as u64);
+    let first = decimals::put_decimal(out, at, place as u64);
+    let second = number_texts::put_named(out, first, b" ", depth as u64);
     text::put_byte(out, second, 32)
 }
 
@@ -29,7 +29,7 @@ fn put_head(out: &mut [u8], at: usize, field: FieldAt) -> usize
     let tag = field_headers::tag_of(kind);
     let first = put_place(out, at, field.place, field.depth);
     let second = field_texts::put_hex_byte(out, first, tag);
-    numerals::put_named(out, second, b" ", field.length as u64)
+    number_texts::put_named(out, second, b" ", field.length as u64)
 }
 
 // The line of a field of the sheet.

@@ -69,7 +69,7 @@ fn put_millionths(out: &mut [u8], at: usize, millionths: i64) -> usize
 {
     let negative = rounding::is_negative(millionths);
     let size = rounding::magnitude(millionths);
-    numerals::put_signed(out, at, negative, 6, size)
+    decimals::put_signed(out, at, negative, 6, size)
 }
 
 // The label and the number of a figure field.
@@ -78,7 +78,7 @@ fn put_figure(out: &mut [u8], at: usize, content: &[u8]) -> usize
 {
     match contents::figure_in(content) {
         FigureIn::Figure(label, millionths) => {
-            let blank = numerals::put_octal3(out, at, label as u32);
+            let blank = number_texts::put_octal3(out, at, label as u32);
             let number = text::put_byte(out, blank, 32);
             put_millionths(out, number, millionths)
         }

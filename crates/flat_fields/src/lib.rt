@@ -88,7 +88,7 @@ fn body_from(kind: Kind, f: FlatRecord) -> Body
     let count = f.count;
     let category = codes::category_of(f.category as u32);
     let marker = codes::marker_of(f.marker as u32);
-    let status = codes::binary_status((f.status as u32 + 3) % 4);
+    let status = statuses::binary_status((f.status as u32 + 3) % 4);
     match kind {
         Kind::VorAzimuth => Body::VorAzimuth {
             status,

@@ -11,7 +11,7 @@ use Rattle.bits.specs.Laws.{both-true}
 use Rattle.codes.specs.Codes.{categoryCode, categoryOf, category-code, flagBit, flag-bit}
 use Rattle.codes.specs.declared.Category.{Category}
 use Rattle.records.specs.declared.Kind.{Kind}
-use Rattle.codes.specs.declared.Status.{Status}
+use Rattle.statuses.specs.declared.Status.{Status}
 use Rattle.records.specs.All.{kinds, agree, placeOf}
 use Rattle.labels.specs.declared.Lookup.{Lookup}
 use Rattle.flat_records.specs.Numbers.{statusNumber}

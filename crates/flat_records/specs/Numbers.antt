@@ -7,7 +7,7 @@ use Rattle.refusals.specs.Numbers.{numberOf}
 use Rattle.records.specs.All.{placeOf}
 use Rattle.records.specs.Kinds.{kindOf}
 use Rattle.records.specs.declared.Body.{Body}
-use Rattle.codes.specs.declared.Status.{Status}
+use Rattle.statuses.specs.declared.Status.{Status}
 use Rattle.decode.specs.declared.Decoded.{Decoded}
 use Rattle.flat_records.specs.declared.FlatRecord.{FlatRecord}
 

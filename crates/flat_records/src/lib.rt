@@ -1,9 +1,9 @@
 // A record as numbers, for other languages.
 use codes::Category;
 use codes::Marker;
-use codes::Status;
 use decode::Decoded;
 use records::Body;
+use statuses::Status;
 ghost use mathlib.Core.Path.{_≡_};
 ghost use Rattle.codes.specs.Codes.{markerCode, categoryCode, flagBit};
 ghost use Rattle.decode.specs.Decode.{decodeOf};

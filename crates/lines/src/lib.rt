@@ -34,8 +34,8 @@ pub fn put_figure_line(
 pub fn put_total_line(out: &mut [u8], at: usize, words: u64, refused: u64) -> usize
     ensures { λ r. ⌜ Writes (now (out .entry)) at (totalLine words refused) (now (out .exit)) r ⌝ }
 {
-    let middle = numerals::put_named(out, at, b"words ", words);
-    let end = numerals::put_named(out, middle, b" refused ", refused);
+    let middle = number_texts::put_named(out, at, b"words ", words);
+    let end = number_texts::put_named(out, middle, b" refused ", refused);
     text::put_byte(out, end, 10)
 }
 
@@ -43,7 +43,12 @@ pub fn put_total_line(out: &mut [u8], at: usize, words: u64, refused: u64) -> us
 pub fn put_refusal_line(out: &mut [u8], at: usize, refusal: Refusal, place: usize) -> usize
     ensures { λ r. ⌜ Writes (now (out .entry)) at (refusalLine refusal place) (now (out .exit)) r ⌝ }
 {
-    let middle = numerals::put_named(out, at, b"sheet refused ", refusals::number(refusal) as u64);
-    let end = numerals::put_named(out, middle, b" at ", place as u64);
+    let middle = number_texts::put_named(
+        out,
+        at,
+        b"sheet refused ",
+        refusals::number(refusal) as u64,
+    );
+    let end = number_texts::put_named(out, middle, b" at ", place as u64);
     text::put_byte(out, end, 10)
 }

@@ -8,9 +8,9 @@ use borrow.Author.Tests.{eqb-false}
 use lib.Dec.{T, eqb}
 use lib.IntN.{ℤ, pos, _*ℤ_}
 use lib.Ieee.{Float}
-use Rattle.codes.specs.Codes.{binaryCode}
+use Rattle.statuses.specs.Statuses.{binaryCode}
 use Rattle.records.specs.declared.Body.{Body}
-use Rattle.codes.specs.declared.Status.{Status}
+use Rattle.statuses.specs.declared.Status.{Status}
 use Rattle.doubles.specs.Exact.{IsExactly, IsCount}
 use Rattle.doubles.specs.Nearest.{IsNearest}
 use Rattle.doubles.specs.Doubles.{degreesOf, courseOf, glideOf, degrees-exact, course-nearest, glide-nearest}

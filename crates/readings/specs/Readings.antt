@@ -4,7 +4,7 @@ use mathlib.Core.Path.{_≡_, refl}
 use mathlib.Core.Bool.{Bool, true, false}
 use lib.IntN.{ℤ, pos, _*ℤ_}
 use Rattle.records.specs.declared.Body.{Body}
-use Rattle.codes.specs.declared.Status.{Status}
+use Rattle.statuses.specs.declared.Status.{Status}
 use Rattle.doubles.specs.Doubles.{degreesOf, courseOf, glideOf}
 use Rattle.views.specs.Views.{isShown, viewOf}
 use Rattle.views.specs.declared.Value.{Value}

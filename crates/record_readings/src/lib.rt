@@ -1,5 +1,5 @@
 // The reading of a record: its value's, under its status.
-use codes::Status;
+use statuses::Status;
 use quantities::Quantity;
 use readings::Reading;
 use readings::Shown;

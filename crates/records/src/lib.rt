@@ -1,7 +1,7 @@
 // The records of the fifteen kinds of word. The definitions and their laws stand in specs/.
 use codes::Category;
 use codes::Marker;
-use codes::Status;
+use statuses::Status;
 
 // What a word is about.
 pub enum Kind {

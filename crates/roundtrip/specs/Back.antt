@@ -15,7 +15,8 @@ use Rattle.bits.specs.Layout.{split}
 use Rattle.bits.specs.Laws.{both-true}
 use Rattle.bits.specs.Complement.{signed, complement, complement-signed, signed-holds}
 use Rattle.bits.specs.Parity.{withParity, parity-only}
-use Rattle.codes.specs.Codes.{binaryCode, binaryStatus, flagBit, binary-code, decimalCode, decimalStatus, decimalListed, decimal-code, marker-code, category-code, flag-bit}
+use Rattle.statuses.specs.Statuses.{binaryCode, binaryStatus, binary-code, decimalCode, decimalStatus, decimalListed, decimal-code}
+use Rattle.codes.specs.Codes.{flagBit, marker-code, category-code, flag-bit}
 use Rattle.frequencies.specs.Frequencies.{tensListed}
 use Rattle.records.specs.Kinds.{kindOf}
 use Rattle.records.specs.Layouts.{layout}

@@ -15,7 +15,8 @@ use Rattle.bits.specs.Fields.{bits, digits}
 use Rattle.bits.specs.Layout.{split}
 use Rattle.bits.specs.Complement.{signed, complement, signed-complement}
 use Rattle.bits.specs.Parity.{odd, parityBit, parity-odd}
-use Rattle.codes.specs.Codes.{binaryStatus, binaryCode, binary-status, decimalStatus, decimalCode, decimalListed, decimal-status, markerOf, markerCode, markerListed, marker-of, categoryOf, category-of, flagBit, flag-of}
+use Rattle.statuses.specs.Statuses.{binaryStatus, binaryCode, binary-status, decimalStatus, decimalCode, decimalListed, decimal-status}
+use Rattle.codes.specs.Codes.{markerOf, markerCode, markerListed, marker-of, categoryOf, category-of, flagBit, flag-of}
 use Rattle.frequencies.specs.Frequencies.{tensCode, legalFrequency}
 use Rattle.records.specs.Kinds.{kindOf}
 use Rattle.records.specs.Layouts.{wordLayout}
@@ -23,7 +24,7 @@ use Rattle.frequencies.specs.declared.Band.{Band}
 use Rattle.records.specs.declared.Body.{Body}
 use Rattle.codes.specs.declared.Marker.{Marker}
 use Rattle.codes.specs.declared.Marker.the-variants.{None, Outer, Middle, Inner}
-use Rattle.codes.specs.declared.Status.{Status}
+use Rattle.statuses.specs.declared.Status.{Status}
 use Rattle.decode.specs.Rules.{Rules, rules, decimal, frequencyIn, bodyOf}
 use Rattle.encode.specs.Fields.{fieldsOf, statusBits}
 use Rattle.encode.specs.Encode.{codesListed, valuesLegal}

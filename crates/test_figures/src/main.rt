@@ -55,15 +55,15 @@ fn with_sign(negative: bool, size: u64) -> i64 {
 
 // The number of the refusal in `refused N`, or 0 and the word.
 fn answer_in(text: &[u8]) -> Answer {
-    let refusal = vector_texts::text_behind(text, b' ');
+    let refusal = vector_parts::text_behind(text, b' ');
     if refusal.len() == 0 {
-        let word = vector_texts::read_number(text, 16, 18446744073709551615);
+        let word = vector_numbers::read_number(text, 16, 18446744073709551615);
         return Answer {
             refusal: 0,
             word: word.value,
         };
     }
-    let number = vector_texts::read_number(refusal, 10, 18446744073709551615);
+    let number = vector_numbers::read_number(refusal, 10, 18446744073709551615);
     Answer {
         refusal: number.value,
         word: 0,
@@ -72,26 +72,26 @@ fn answer_in(text: &[u8]) -> Answer {
 
 // Whether the three numbers of a line are well formed, and the answer after them is right.
 fn is_line_right(line: &[u8]) -> bool {
-    let after_label = vector_texts::text_behind(line, b' ');
-    let after_source = vector_texts::text_behind(after_label, b' ');
-    let figure = vector_texts::text_before(after_source, b' ');
-    let label = vector_texts::read_number(
-        vector_texts::text_before(line, b' '),
+    let after_label = vector_parts::text_behind(line, b' ');
+    let after_source = vector_parts::text_behind(after_label, b' ');
+    let figure = vector_parts::text_before(after_source, b' ');
+    let label = vector_numbers::read_number(
+        vector_parts::text_before(line, b' '),
         8,
         18446744073709551615,
     );
-    let source = vector_texts::read_number(
-        vector_texts::text_before(after_label, b' '),
+    let source = vector_numbers::read_number(
+        vector_parts::text_before(after_label, b' '),
         10,
         18446744073709551615,
     );
-    let size = vector_texts::read_size(figure, 18446744073709551615);
-    let negative = vector_texts::starts_with(figure, b'-');
+    let size = vector_numbers::read_size(figure, 18446744073709551615);
+    let negative = vector_parts::starts_with(figure, b'-');
     let right = is_right(Expected {
         label: label.value,
         source: source.value,
         millionths: with_sign(negative, size.value),
-        answer: answer_in(vector_texts::text_behind(after_source, b' ')),
+        answer: answer_in(vector_parts::text_behind(after_source, b' ')),
     });
     (label.good & source.good) & (size.good & right)
 }
@@ -105,9 +105,9 @@ fn tally_of(text: &[u8]) -> Tally {
     };
     let mut start = 0;
     while start < text.len() {
-        let line = vector_texts::text_before(&text[start..], b'\n');
+        let line = vector_parts::text_before(&text[start..], b'\n');
         tally = test_vectors::with_line(tally, is_line_right(line));
-        start = text.len() - vector_texts::text_behind(&text[start..], b'\n').len();
+        start = text.len() - vector_parts::text_behind(&text[start..], b'\n').len();
     }
     tally
 }

@@ -1,10 +1,10 @@
 // What every record has, whatever its kind: a status and a value, or a part's number and content.
-use codes::Status;
 use records::AzimuthCount;
 use records::Body;
 use records::CourseCount;
 use records::GlideCount;
 use records::MlsCount;
+use statuses::Status;
 ghost use mathlib.Core.Path.{_≡_};
 ghost use Prim.Native.Nat.{_+_, _*_};
 ghost use Rattle.views.specs.Views.{isShown, viewOf};

@@ -5,7 +5,7 @@ use mathlib.Core.Path.{refl, sym, ap, _∙_}
 use mathlib.Core.Bool.{Bool, cond, _&&_}
 use borrow.Author.Needs.{needs}
 use Rattle.bits.specs.Fields.{bits}
-use Rattle.codes.specs.Codes.{decimalListed}
+use Rattle.statuses.specs.Statuses.{decimalListed}
 use Rattle.frequencies.specs.Frequencies.{legalFrequency}
 use Rattle.refusals.specs.declared.Refusal.{Refusal}
 use Rattle.decode.specs.declared.Judgement.{Judgement}

@@ -1,7 +1,7 @@
 -- Each arm's answer is the definition's at the status that the arm matched.
 -- Assumes nothing.
 use mathlib.Core.Path.{ap, sym}
-use Rattle.codes.specs.declared.Status.{Status}
+use Rattle.statuses.specs.declared.Status.{Status}
 use Rattle.readings.specs.Readings.{shownUnder}
 use borrow.Author.Needs.{needs}
 use Rattle.record_readings.proofs.shown_under.Statement.{statement}
