@@ -79,7 +79,7 @@ pub record Demand1 : Type 0 where
   pub top-field : (s : List ℕ) → Bytes s → (at : ℕ) → Follows passed (topFieldRules s at) (fieldOf 1 0 at s)
   -- one field, where bytes are left: `start_at`
   pub field : (depth : ℕ) (bs : List ℕ) → 0 < length bs → Follows started (fieldRules depth bs) (startOf depth bs)
-  -- each answer of a walk from its start: `step` after `start`, `reader::next` after `reader::new`, `field_at`
+  -- each answer of a walk from its start: `step` after `start`, `sheet_reader::next` after `sheet_reader::new`, `field_at`
   pub walk : (s : List ℕ) → Bytes s → (n : ℕ) → Follows walked (sheetRules s) (stepOf s (after n s (startWalk s)) .given)
   -- a note and the totals: `find_note`, `note_text`, `totals_of`
   pub note : (s : List ℕ) → Bytes s → (place : ℕ) → Follows noted (noteRules s place) (noteOf (sheetOf s) place)

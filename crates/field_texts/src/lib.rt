@@ -76,7 +76,7 @@ fn put_millionths(out: &mut [u8], at: usize, millionths: i64) -> usize
 fn put_figure(out: &mut [u8], at: usize, content: &[u8]) -> usize
     ensures { λ r. ⌜ Writes (now (out .entry)) at (figureText (now (content .entry))) (now (out .exit)) r ⌝ }
 {
-    match contents::figure_in(content) {
+    match content_values::figure_in(content) {
         FigureIn::Figure(label, millionths) => {
             let blank = number_texts::put_octal3(out, at, label as u32);
             let number = text::put_byte(out, blank, 32);

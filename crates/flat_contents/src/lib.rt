@@ -63,21 +63,21 @@ fn flat_figure_in(found: FigureIn) -> FlatFigure
 pub fn word_in_flat(content: &[u8]) -> FlatWord
     ensures { λ r. ⌜ r ≡ flatWordIn (wordIn (now (content .entry))) ⌝ }
 {
-    flat_word_in(contents::word_in(content))
+    flat_word_in(content_values::word_in(content))
 }
 
 // The figure that a figure field's content holds, or the number of its refusal.
 pub fn figure_in_flat(content: &[u8]) -> FlatFigure
     ensures { λ r. ⌜ r ≡ flatFigureIn (figureIn (now (content .entry))) ⌝ }
 {
-    flat_figure_in(contents::figure_in(content))
+    flat_figure_in(content_values::figure_in(content))
 }
 
 // Where the text of the note at a place is, or the number of its refusal.
 pub fn find_note_flat(sheet: &[u8], place: usize) -> FlatNote
     ensures { λ r. ⌜ r ≡ flatNote place (noteOf (sheetOf (now (sheet .entry))) place) ⌝ }
 {
-    match notes::find_note(sheet, place) {
+    match note_finder::find_note(sheet, place) {
         NoteFound::Found(start, end) => FlatNote {
             refusal: 0,
             start: start,

@@ -60,7 +60,7 @@ pub fn write_word_flat(out: &mut [u8], place: usize, word: u32) -> FlatPlace
     ensures { λ r. ⌜ r ≡ flatWritten (writeOf (now (out .entry)) place FieldKind.Word (wordBytes word) .answer) ⌝ }
     ensures { λ _. ⌜ now (out .exit) ≡ writeOf (now (out .entry)) place FieldKind.Word (wordBytes word) .buffer ⌝ }
 {
-    flat_written(writer::write_word(out, place, word))
+    flat_written(field_writers::write_word(out, place, word))
 }
 
 // Writes a figure field: a label and millionths.
@@ -68,7 +68,7 @@ pub fn write_figure_flat(out: &mut [u8], place: usize, label: u8, millionths: i6
     ensures { λ r. ⌜ r ≡ flatWritten (writeOf (now (out .entry)) place FieldKind.Figure (figureBytes label millionths) .answer) ⌝ }
     ensures { λ _. ⌜ now (out .exit) ≡ writeOf (now (out .entry)) place FieldKind.Figure (figureBytes label millionths) .buffer ⌝ }
 {
-    flat_written(writer::write_figure(out, place, label, millionths))
+    flat_written(field_writers::write_figure(out, place, label, millionths))
 }
 
 // Writes a note field.
@@ -76,7 +76,7 @@ pub fn write_note_flat(out: &mut [u8], place: usize, text: &[u8]) -> FlatPlace
     ensures { λ r. ⌜ r ≡ flatWritten (writeOf (now (out .entry)) place FieldKind.Note (now (text .entry)) .answer) ⌝ }
     ensures { λ _. ⌜ now (out .exit) ≡ writeOf (now (out .entry)) place FieldKind.Note (now (text .entry)) .buffer ⌝ }
 {
-    flat_written(writer::write_note(out, place, text))
+    flat_written(field_writers::write_note(out, place, text))
 }
 
 // Writes a group field of a run of bytes, which is checked first as the inside of a top group.
@@ -84,5 +84,5 @@ pub fn write_group_flat(out: &mut [u8], place: usize, run: &[u8]) -> FlatPlace
     ensures { λ r. ⌜ r ≡ flatWritten (groupOf (now (out .entry)) place (now (run .entry)) .answer) ⌝ }
     ensures { λ _. ⌜ now (out .exit) ≡ groupOf (now (out .entry)) place (now (run .entry)) .buffer ⌝ }
 {
-    flat_written(writer::write_group(out, place, run))
+    flat_written(field_writers::write_group(out, place, run))
 }

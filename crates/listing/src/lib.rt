@@ -51,7 +51,7 @@ fn put_word(out: &mut [u8], progress: Progress, depth: u8, content: &[u8]) -> Pr
     ensures { λ r. ⌜ Lists (now (out .entry)) progress FieldKind.Word depth (now (content .entry)) (now (out .exit)) r ⌝ }
 {
     let words = progress.words + 1;
-    match contents::word_in(content) {
+    match content_values::word_in(content) {
         WordIn::Word(word) => {
             let decoded = decoder::decode(word);
             let refused = progress.refused + totals::refused_one(decoded);
@@ -83,7 +83,7 @@ fn put_figure(out: &mut [u8], progress: Progress, depth: u8, content: &[u8]) -> 
 {
     let before = progress.before;
     let previous = previous_of(before, depth);
-    match contents::figure_in(content) {
+    match content_values::figure_in(content) {
         FigureIn::Figure(label, millionths) => Progress {
             at: lines::put_figure_line(out, progress.at, previous, label, millionths),
             before: Before::Nothing,

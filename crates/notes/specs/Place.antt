@@ -7,6 +7,7 @@ use mathlib.Core.Logic.{⊎-elim}
 use Prim.Native.Nat.{ℕ, _+_, _≤_, _<_}
 use native.Mathlib.Omega.{arith}
 use borrow.Author.Tests.{eqb-true, eq-eqb, ne-eqb}
+use denote.Ref.{RefT, ptr, now}
 use lib.Dec.{eqb}
 use lib.ListN.{length, take, drop}
 use Rattle.refusals.specs.declared.Refusal.{Refusal}
@@ -17,7 +18,7 @@ use Rattle.walk.specs.Step.{startWalk, stepOf}
 use Rattle.walk.specs.Stands.{Stands}
 use Rattle.walk.specs.WithinLemmas.{drop-take}
 use Rattle.walk.specs.Walked.{InSheet, steps, starts, rising, content-in-sheet}
-use Rattle.notes.specs.Note.{NoteText, Text, NoText, isNote, noteIn, noteOf, textOf, foundOf, spanOf}
+use Rattle.notes.specs.Note.{NoteText, Text, NoText, isNote, noteIn, noteOf, textOf, foundOf, spanOf, PartOf}
 
 -- ---- which note
 
@@ -109,3 +110,8 @@ text-lies s p = by (sheetOf s) refl
     by : (r : Scan) → sheetOf s ≡ r → Lies s p (noteOf r p)
     by (Fields fs) e = lies-in s p fs (λ f m. content-in-sheet s fs f e m)
     by (Refused f q) e = lies-nowhere s p f q
+
+-- A slice that is the text points into the sheet's memory, 3 bytes past the note's place.
+pub text-points : (sheet part : RefT (List ℕ)) (p : ℕ) (t : List ℕ) → noteOf (sheetOf (now sheet)) p ≡ Text t
+    → PartOf sheet (spanOf (foundOf p (noteOf (sheetOf (now sheet)) p))) part → ptr part ≡ (ptr sheet .0, p + 3 + ptr sheet .1)
+text-points sheet part p t e h = h .lies ∙ ap (λ (n : NoteText). (ptr sheet .0, spanOf (foundOf p n) .start + ptr sheet .1)) e

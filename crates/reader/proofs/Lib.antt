@@ -1,3 +1,3 @@
--- What the proofs of this crate share.
+-- What the proofs of a reader's functions share.
 pub mod Thin
 pub mod Held

@@ -1,3 +1,0 @@
--- Laws that the proofs cite. Assumes nothing.
-pub mod Stores
-pub mod Groups
