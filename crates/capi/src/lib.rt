@@ -41,7 +41,7 @@ ghost use Rattle.flat_words.specs.Words.{flatWord, encodeFlat};
 pub extern "C" fn lampcygnet_decode(word: u32) -> FlatRecord
     ensures { λ r. ⌜ r ≡ flatOf (decodeOf word) ⌝ }
 {
-    flat_records::decode_flat(word)
+    flat_decoder::decode_flat(word)
 }
 
 // The word of a record, or its refusal.

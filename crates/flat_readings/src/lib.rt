@@ -67,14 +67,14 @@ fn flat_setting(shown: u8, setting: Setting) -> FlatReading
         Setting::SelectedAzimuth { manual, degrees } => whole(
             shown,
             5,
-            flat_records::flag_number(manual),
+            flat_flags::flag_number(manual),
             widened(degrees as u32),
         ),
         Setting::GreatestGlideAngle { tenths } => whole(shown, 6, 0, widened(tenths as u32)),
         Setting::SelectedGlideAngle { manual, tenths } => whole(
             shown,
             7,
-            flat_records::flag_number(manual),
+            flat_flags::flag_number(manual),
             widened(tenths as u32),
         ),
     }

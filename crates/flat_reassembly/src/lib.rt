@@ -100,7 +100,7 @@ fn answered(answer: WordAnswer) -> FlatAnswer
         WordAnswer::Complete(group) => FlatAnswer {
             refusal: 0,
             complete: 1,
-            parity_good: flat_records::flag_number(group.parity_good),
+            parity_good: flat_flags::flag_number(group.parity_good),
             bits: group.bits,
         },
         WordAnswer::Refused(refusal) => FlatAnswer {

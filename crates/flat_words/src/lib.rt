@@ -33,7 +33,7 @@ pub fn encode_flat(f: FlatRecord) -> FlatWord
     ensures { λ r. ⌜ r ≡ encodeFlat f ⌝ }
 {
     match flat_fields::record_from(f) {
-        Decoded::Accepted(record) => flat_word(encode::encode(record)),
+        Decoded::Accepted(record) => flat_word(encoder::encode(record)),
         Decoded::Refused(refusal) => flat_word(Encoded::Refused(refusal)),
     }
 }
