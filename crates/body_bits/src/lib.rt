@@ -1,7 +1,7 @@
 // Bits 11 to 31 of a word: what the body of a record writes in them.
-use statuses::Status;
 use frequencies::Band;
 use records::Body;
+use statuses::Status;
 ghost use mathlib.Core.Path.{_≡_};
 ghost use Prim.Native.Nat.{_+_, _*_, _<_, _/_, _%_};
 ghost use Rattle.bits.specs.Complement.{complement};

@@ -1,69 +1,26 @@
 // Words of a known kind whose zero bits are zero: the kind's rules, and what the word holds.
-use statuses::Status;
 use decode::Decoded;
 use decode::Judgement;
-use frequencies::Band;
 use records::AzimuthCount;
 use records::Body;
 use records::CourseCount;
 use records::GlideCount;
 use records::Kind;
 use records::MlsCount;
-use records::Record;
 use refusals::Refusal;
+use statuses::Status;
 ghost use mathlib.Core.Path.{_≡_};
 ghost use mathlib.Core.Bool.{cond};
 ghost use lib.Dec.{eqb};
 ghost use Rattle.bits.specs.Fields.{bits};
-ghost use Rattle.statuses.specs.Statuses.{binaryStatus, decimalStatus};
-ghost use Rattle.decode.specs.Rules.{frequencyIn, decimal};
-ghost use Rattle.decode.specs.Decode.{judgement, judged};
+ghost use Rattle.statuses.specs.Statuses.{binaryStatus};
 ghost use Rattle.decode.specs.Kinds.{decodeClear};
-
-fn kept_if(test: bool, refusal: Refusal) -> Judgement
-    ensures { λ r. ⌜ r ≡ cond test Judgement.Kept (Judgement.Broken refusal) ⌝ }
-{
-    if test {
-        Judgement::Kept
-    } else {
-        Judgement::Broken(refusal)
-    }
-}
-
-// The frequency in bits 15 to 29, in tens of kHz.
-fn frequency_in(band: Band, word: u32) -> u32
-    ensures { λ r. ⌜ r ≡ frequencyIn band word ⌝ }
-{
-    let tens = frequencies::tens_of(band, word / 67108864 % 8);
-    let megahertz = tens * 10 + word / 4194304 % 16;
-    let digits = (megahertz * 10 + word / 262144 % 16) * 10 + word / 16384 % 16;
-    frequencies::offset_of(band) + digits
-}
-
-// The rules of a frequency word.
-fn frequency_judgement(band: Band, word: u32) -> Judgement
-    ensures { λ r. ⌜ r ≡ judgement (decimal band word) ⌝ }
-{
-    let digits = (word / 16384 % 16 <= 9)
-        & ((word / 262144 % 16 <= 9) & (word / 4194304 % 16 <= 9));
-    if !digits {
-        return Judgement::Broken(Refusal::Digit);
-    }
-    let codes = (word / 536870912 % 4 < 3) & frequencies::is_tens(band, word / 67108864 % 8);
-    if !codes {
-        return Judgement::Broken(Refusal::Code);
-    }
-    kept_if(
-        frequencies::is_legal_frequency(band, frequency_in(band, word)),
-        Refusal::Value,
-    )
-}
 
 // The rule of a part: bits 30 and 31 are the part's code.
 fn part_judgement(code: u32, word: u32) -> Judgement
     ensures { λ r. ⌜ r ≡ cond (eqb (bits 30 31 word) code) Judgement.Kept (Judgement.Broken Refusal.Code) ⌝ }
 {
-    kept_if(word / 536870912 % 4 == code, Refusal::Code)
+    judgements::kept_if(word / 536870912 % 4 == code, Refusal::Code)
 }
 
 // The status of a binary word, in bits 30 and 31.
@@ -71,13 +28,6 @@ fn status_in(word: u32) -> Status
     ensures { λ r. ⌜ r ≡ binaryStatus (bits 30 31 word) ⌝ }
 {
     statuses::binary_status(word / 536870912 % 4)
-}
-
-// The status of a decimal word, in bits 30 and 31.
-fn decimal_status_in(word: u32) -> Status
-    ensures { λ r. ⌜ r ≡ decimalStatus (bits 30 31 word) ⌝ }
-{
-    statuses::decimal_status(word / 536870912 % 4)
 }
 
 // The flags in bits 11, 12 and 19.
@@ -113,33 +63,13 @@ fn content_in(word: u32) -> u16
     (word / 8192 % 65536) as u16
 }
 
-// The source, in bits 9 and 10.
-fn source_in(word: u32) -> u8
-    ensures { λ r. ⌜ r ≡ bits 9 10 word ⌝ }
-{
-    (word / 256 % 4) as u8
-}
-
-// The record of this body and the word's source, or the refusal for the rule that the word breaks.
-fn judged(judgement: Judgement, word: u32, body: Body) -> Decoded
-    ensures { λ r. ⌜ r ≡ judged judgement (record { source = bits 9 10 word; body = body }) ⌝ }
-{
-    match judgement {
-        Judgement::Kept => Decoded::Accepted(Record {
-            source: source_in(word),
-            body: body,
-        }),
-        Judgement::Broken(refusal) => Decoded::Refused(refusal),
-    }
-}
-
 // A word of each kind whose zero bits are zero: its rules, and the fields that the kind has.
 fn vor_azimuth(word: u32) -> Decoded
     ensures { λ r. ⌜ r ≡ decodeClear Kind.VorAzimuth word ⌝ }
 {
     let code = word / 1024 % 8;
-    judged(
-        kept_if(codes::is_marker(code), Refusal::Code),
+    judgements::judged(
+        judgements::kept_if(codes::is_marker(code), Refusal::Code),
         word,
         Body::VorAzimuth {
             status: status_in(word),
@@ -149,23 +79,10 @@ fn vor_azimuth(word: u32) -> Decoded
     )
 }
 
-fn vor_frequency(word: u32) -> Decoded
-    ensures { λ r. ⌜ r ≡ decodeClear Kind.VorFrequency word ⌝ }
-{
-    judged(
-        frequency_judgement(Band::Vor, word),
-        word,
-        Body::VorFrequency {
-            status: decimal_status_in(word),
-            frequency: frequency_in(Band::Vor, word),
-        },
-    )
-}
-
 fn ils_course(word: u32) -> Decoded
     ensures { λ r. ⌜ r ≡ decodeClear Kind.IlsCourse word ⌝ }
 {
-    judged(
+    judgements::judged(
         Judgement::Kept,
         word,
         Body::IlsCourse {
@@ -179,7 +96,7 @@ fn ils_course(word: u32) -> Decoded
 fn ils_glide(word: u32) -> Decoded
     ensures { λ r. ⌜ r ≡ decodeClear Kind.IlsGlide word ⌝ }
 {
-    judged(
+    judgements::judged(
         Judgement::Kept,
         word,
         Body::IlsGlide {
@@ -190,37 +107,10 @@ fn ils_glide(word: u32) -> Decoded
     )
 }
 
-fn ils_frequency(word: u32) -> Decoded
-    ensures { λ r. ⌜ r ≡ decodeClear Kind.IlsFrequency word ⌝ }
-{
-    judged(
-        frequency_judgement(Band::Ils, word),
-        word,
-        Body::IlsFrequency {
-            status: decimal_status_in(word),
-            category: codes::category_of(word / 1024 % 4),
-            frequency: frequency_in(Band::Ils, word),
-        },
-    )
-}
-
-fn mls_frequency(word: u32) -> Decoded
-    ensures { λ r. ⌜ r ≡ decodeClear Kind.MlsFrequency word ⌝ }
-{
-    judged(
-        frequency_judgement(Band::Mls, word),
-        word,
-        Body::MlsFrequency {
-            status: decimal_status_in(word),
-            frequency: frequency_in(Band::Mls, word),
-        },
-    )
-}
-
 fn mls_azimuth_deviation(word: u32) -> Decoded
     ensures { λ r. ⌜ r ≡ decodeClear Kind.MlsAzimuthDeviation word ⌝ }
 {
-    judged(
+    judgements::judged(
         Judgement::Kept,
         word,
         Body::MlsAzimuthDeviation {
@@ -235,7 +125,7 @@ fn mls_azimuth_deviation(word: u32) -> Decoded
 fn mls_glide_deviation(word: u32) -> Decoded
     ensures { λ r. ⌜ r ≡ decodeClear Kind.MlsGlideDeviation word ⌝ }
 {
-    judged(
+    judgements::judged(
         Judgement::Kept,
         word,
         Body::MlsGlideDeviation {
@@ -250,8 +140,8 @@ fn mls_glide_deviation(word: u32) -> Decoded
 fn selected_azimuth(word: u32) -> Decoded
     ensures { λ r. ⌜ r ≡ decodeClear Kind.SelectedAzimuth word ⌝ }
 {
-    judged(
-        kept_if(word / 524288 % 512 <= 359, Refusal::Value),
+    judgements::judged(
+        judgements::kept_if(word / 524288 % 512 <= 359, Refusal::Value),
         word,
         Body::SelectedAzimuth {
             status: status_in(word),
@@ -264,8 +154,8 @@ fn selected_azimuth(word: u32) -> Decoded
 fn greatest_glide_angle(word: u32) -> Decoded
     ensures { λ r. ⌜ r ≡ decodeClear Kind.GreatestGlideAngle word ⌝ }
 {
-    judged(
-        kept_if(bits::is_odd(word / 524288 % 512), Refusal::AngleParity),
+    judgements::judged(
+        judgements::kept_if(bits::is_odd(word / 524288 % 512), Refusal::AngleParity),
         word,
         Body::GreatestGlideAngle {
             status: status_in(word),
@@ -277,7 +167,7 @@ fn greatest_glide_angle(word: u32) -> Decoded
 fn selected_glide_angle(word: u32) -> Decoded
     ensures { λ r. ⌜ r ≡ decodeClear Kind.SelectedGlideAngle word ⌝ }
 {
-    judged(
+    judgements::judged(
         Judgement::Kept,
         word,
         Body::SelectedGlideAngle {
@@ -291,7 +181,7 @@ fn selected_glide_angle(word: u32) -> Decoded
 fn part_1(word: u32) -> Decoded
     ensures { λ r. ⌜ r ≡ decodeClear Kind.Part1 word ⌝ }
 {
-    judged(
+    judgements::judged(
         part_judgement(0, word),
         word,
         Body::Part1 {
@@ -304,7 +194,7 @@ fn part_1(word: u32) -> Decoded
 fn part_2(word: u32) -> Decoded
     ensures { λ r. ⌜ r ≡ decodeClear Kind.Part2 word ⌝ }
 {
-    judged(
+    judgements::judged(
         part_judgement(1, word),
         word,
         Body::Part2 {
@@ -316,7 +206,7 @@ fn part_2(word: u32) -> Decoded
 fn part_3(word: u32) -> Decoded
     ensures { λ r. ⌜ r ≡ decodeClear Kind.Part3 word ⌝ }
 {
-    judged(
+    judgements::judged(
         part_judgement(2, word),
         word,
         Body::Part3 {
@@ -328,7 +218,7 @@ fn part_3(word: u32) -> Decoded
 fn part_4(word: u32) -> Decoded
     ensures { λ r. ⌜ r ≡ decodeClear Kind.Part4 word ⌝ }
 {
-    judged(
+    judgements::judged(
         part_judgement(3, word),
         word,
         Body::Part4 {
@@ -344,11 +234,11 @@ pub fn decode_clear(kind: Kind, word: u32) -> Decoded
 {
     match kind {
         Kind::VorAzimuth => vor_azimuth(word),
-        Kind::VorFrequency => vor_frequency(word),
+        Kind::VorFrequency => frequency_words::vor_frequency(word),
         Kind::IlsCourse => ils_course(word),
         Kind::IlsGlide => ils_glide(word),
-        Kind::IlsFrequency => ils_frequency(word),
-        Kind::MlsFrequency => mls_frequency(word),
+        Kind::IlsFrequency => frequency_words::ils_frequency(word),
+        Kind::MlsFrequency => frequency_words::mls_frequency(word),
         Kind::MlsAzimuthDeviation => mls_azimuth_deviation(word),
         Kind::MlsGlideDeviation => mls_glide_deviation(word),
         Kind::SelectedAzimuth => selected_azimuth(word),

@@ -8,7 +8,7 @@ use Rattle.bits.specs.Parity.{odd}
 use Rattle.bits.specs.Complement.{signed}
 use Rattle.statuses.specs.Statuses.{binaryStatus, decimalStatus, decimalListed}
 use Rattle.codes.specs.Codes.{markerOf, markerListed, categoryOf}
-use Rattle.frequencies.specs.Frequencies.{tensListed, frequencyOf, legalFrequency}
+use Rattle.frequencies.specs.Frequencies.{tensListed, frequencyIn, legalFrequency}
 use Rattle.frequencies.specs.declared.Band.{Band}
 use Rattle.records.specs.declared.Body.{Body}
 use Rattle.records.specs.declared.Kind.{Kind}
@@ -33,10 +33,6 @@ valueOnly b = record { digits = true; codes = true; value = b; angle = true }
 
 abbrev angleOnly : Bool → Rules
 angleOnly b = record { digits = true; codes = true; value = true; angle = b }
-
--- the frequency in bits 15 to 29
-abbrev pub frequencyIn : Band → ℕ → ℕ
-frequencyIn b w = frequencyOf b (bits 15 18 w) (bits 19 22 w) (bits 23 26 w) (bits 27 29 w)
 
 -- a decimal word: digits up to 9, a status and a tens digit that have a code, and a frequency of the band
 abbrev pub decimal : Band → ℕ → Rules

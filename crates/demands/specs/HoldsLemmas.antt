@@ -19,13 +19,13 @@ use Rattle.codes.specs.Codes.{markerCode, markerOf, categoryCode, categoryOf, f
 use Rattle.codes.specs.declared.Category.{Category}
 use Rattle.codes.specs.declared.Marker.{Marker}
 use Rattle.statuses.specs.declared.Status.{Status}
-use Rattle.frequencies.specs.Frequencies.{mlsTens}
+use Rattle.frequencies.specs.Frequencies.{mlsTens, frequencyIn}
 use Rattle.frequencies.specs.declared.Band.{Band}
 use Rattle.records.specs.Kinds.{kindOf}
 use Rattle.records.specs.declared.Body.{Body}
 use Rattle.records.specs.declared.Kind.{Kind}
 use Rattle.labels.specs.Label.{labelOf}
-use Rattle.decode.specs.Rules.{bodyOf, frequencyIn}
+use Rattle.decode.specs.Rules.{bodyOf}
 use Rattle.readings.specs.Meaning.{HasStatus}
 use Rattle.demands.specs.Holds.{bit, Bits, sum, number, signed, BinaryStatus, DecimalStatus, MarkerIs, CategoryIs, Flag, belowTens, SentAs, MlsIs, HoldsBody, StatusIs}
 use Rattle.demands.specs.Allowed.{asks}

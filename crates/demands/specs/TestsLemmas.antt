@@ -14,12 +14,12 @@ use Rattle.bits.specs.Laws.{both-true}
 use Rattle.bits.specs.Parity.{odd, ones-in}
 use Rattle.statuses.specs.Statuses.{decimalCode, decimalListed}
 use Rattle.codes.specs.Codes.{markerOf, markerListed, marker-code}
-use Rattle.frequencies.specs.Frequencies.{mlsTens, legalFrequency, mls-range}
+use Rattle.frequencies.specs.Frequencies.{mlsTens, legalFrequency, mls-range, frequencyIn}
 use Rattle.frequencies.specs.declared.Band.{Band}
 use Rattle.records.specs.declared.Kind.{Kind}
 use Rattle.codes.specs.declared.Marker.{Marker}
 use Rattle.statuses.specs.declared.Status.{Status}
-use Rattle.decode.specs.Rules.{rules, frequencyIn}
+use Rattle.decode.specs.Rules.{rules}
 use Rattle.roundtrip.specs.Forth.{marker-listed}
 use Rattle.demands.specs.Holds.{bit, sum, number, DecimalStatus, MarkerIs, SentAs, MlsIs}
 use Rattle.demands.specs.HoldsLemmas.{sum-digits, field-lt, status-bits, marker-is, decimal-only, tens-sent, never-two, mls-only, mls-holds}

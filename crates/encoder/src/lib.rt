@@ -1,10 +1,10 @@
 // A record to its word, or to its refusal.
-use statuses::Status;
 use encode::Encoded;
 use frequencies::Band;
 use records::Body;
 use records::Record;
 use refusals::Refusal;
+use statuses::Status;
 ghost use mathlib.Core.Path.{_≡_};
 ghost use mathlib.Core.Bool.{true};
 ghost use Prim.Native.Nat.{_<_};

@@ -5,7 +5,7 @@ use readings::Shown;
 use views::Setting;
 ghost use mathlib.Core.Path.{_≡_};
 ghost use lib.IntN.{pos};
-ghost use Rattle.flat_readings.specs.Readings.{rounded, whole, flatSetting, flatReading, absent, flatShown, flatRead, readingIn};
+ghost use Rattle.flat_readings.specs.Readings.{rounded, whole, flatSetting, flatReading, absent, flatShown, readingIn};
 
 // A reading as numbers. Zero stands in every field where there is none, and beside a refusal in every other field.
 #[repr(C)]

@@ -1,10 +1,10 @@
 // The numbers of a record, or of a refusal.
 use codes::Category;
 use codes::Marker;
-use statuses::Status;
 use decode::Decoded;
 use flat_records::FlatRecord;
 use records::Body;
+use statuses::Status;
 ghost use mathlib.Core.Path.{_≡_};
 ghost use Rattle.codes.specs.Codes.{markerCode, categoryCode, flagBit};
 ghost use Rattle.flat_records.specs.Numbers.{statusNumber, withCount, withValue, part, refused, flatNumbers, flatOf};

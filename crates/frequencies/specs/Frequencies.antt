@@ -6,6 +6,7 @@ use Prim.Native.Nat.{ℕ, zero, suc, _+_, _-_, _*_, _/_, _%_, _≤_, _<_}
 use native.Mathlib.Omega.{arith}
 use borrow.Author.Tests.{leb-true, eqb-true}
 use lib.Dec.{eqb, leb}
+use Rattle.bits.specs.Fields.{bits}
 use Rattle.bits.specs.Laws.{both-true}
 use Rattle.frequencies.specs.declared.Band.{Band}
 use Rattle.frequencies.specs.declared.Band.the-variants.{Vor, Ils, Mls}
@@ -43,6 +44,10 @@ tensCode Mls d = d % 8
 -- the frequency that these digits give: hundredths, tenths, units of a MHz, and the code of the tens
 abbrev pub frequencyOf : Band → ℕ → ℕ → ℕ → ℕ → ℕ
 frequencyOf b hundredths tenths units tens = offset b + (((tensOf b tens * 10 + units) * 10 + tenths) * 10 + hundredths)
+
+-- the frequency in bits 15 to 29 of a word
+abbrev pub frequencyIn : Band → ℕ → ℕ
+frequencyIn b w = frequencyOf b (bits 15 18 w) (bits 19 22 w) (bits 23 26 w) (bits 27 29 w)
 
 -- VOR and ILS: any digits from 100.00 to 179.99 MHz; MLS: 5031.0 + 0.3 k MHz, k from 0 to 199
 abbrev pub legalFrequency : Band → ℕ → Bool

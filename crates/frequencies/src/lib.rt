@@ -1,6 +1,6 @@
 // Frequencies in tens of kHz: what the words leave out, the codes of the tens, and which are legal.
 ghost use mathlib.Core.Path.{_≡_};
-ghost use Rattle.frequencies.specs.Frequencies.{offset, tensOf, tensListed, tensCode, legalFrequency};
+ghost use Rattle.frequencies.specs.Frequencies.{offset, tensOf, tensListed, tensCode, frequencyIn, legalFrequency};
 
 // The bands of the frequency words.
 pub enum Band {
@@ -10,7 +10,7 @@ pub enum Band {
 }
 
 // What a band's words leave out of a frequency, in tens of kHz.
-pub fn offset_of(band: Band) -> u32
+fn offset_of(band: Band) -> u32
     ensures { λ r. ⌜ r ≡ offset band ⌝ }
 {
     match band {
@@ -32,7 +32,7 @@ pub fn is_tens(band: Band, code: u32) -> bool
 }
 
 // The tens digit that a code means.
-pub fn tens_of(band: Band, code: u32) -> u32
+fn tens_of(band: Band, code: u32) -> u32
     ensures { λ r. ⌜ r ≡ tensOf band code ⌝ }
 {
     match band {
@@ -44,6 +44,16 @@ pub fn tens_of(band: Band, code: u32) -> u32
             _ => code,
         },
     }
+}
+
+// The frequency in bits 15 to 29 of a word, in tens of kHz.
+pub fn frequency_in(band: Band, word: u32) -> u32
+    ensures { λ r. ⌜ r ≡ frequencyIn band word ⌝ }
+{
+    let tens = tens_of(band, word / 67108864 % 8);
+    let megahertz = tens * 10 + word / 4194304 % 16;
+    let digits = (megahertz * 10 + word / 262144 % 16) * 10 + word / 16384 % 16;
+    offset_of(band) + digits
 }
 
 // The code of a tens digit.

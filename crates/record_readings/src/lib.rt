@@ -1,5 +1,4 @@
 // The reading of a record: its value's, under its status.
-use statuses::Status;
 use quantities::Quantity;
 use readings::Reading;
 use readings::Shown;
@@ -8,6 +7,7 @@ use records::Body;
 use records::CourseCount;
 use records::GlideCount;
 use records::MlsCount;
+use statuses::Status;
 use views::Value;
 use views::View;
 ghost use mathlib.Core.Path.{_≡_};

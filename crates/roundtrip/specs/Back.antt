@@ -17,13 +17,13 @@ use Rattle.bits.specs.Complement.{signed, complement, complement-signed, signed
 use Rattle.bits.specs.Parity.{withParity, parity-only}
 use Rattle.statuses.specs.Statuses.{binaryCode, binaryStatus, binary-code, decimalCode, decimalStatus, decimalListed, decimal-code}
 use Rattle.codes.specs.Codes.{flagBit, marker-code, category-code, flag-bit}
-use Rattle.frequencies.specs.Frequencies.{tensListed}
+use Rattle.frequencies.specs.Frequencies.{tensListed, frequencyIn}
 use Rattle.records.specs.Kinds.{kindOf}
 use Rattle.records.specs.Layouts.{layout}
 use Rattle.frequencies.specs.declared.Band.{Band}
 use Rattle.records.specs.declared.Body.{Body}
 use Rattle.records.specs.declared.Kind.{Kind}
-use Rattle.decode.specs.Rules.{rules, decimal, frequencyIn, bodyOf}
+use Rattle.decode.specs.Rules.{rules, decimal, bodyOf}
 use Rattle.encode.specs.Fields.{decimalDigits, fieldsOf, statusBits}
 use Rattle.encode.specs.Encode.{codesListed, narrow, wide, valuesLegal}
 use Rattle.roundtrip.specs.Digits.{digits-back}

@@ -17,7 +17,7 @@ use Rattle.bits.specs.Complement.{signed, complement, signed-complement}
 use Rattle.bits.specs.Parity.{odd, parityBit, parity-odd}
 use Rattle.statuses.specs.Statuses.{binaryStatus, binaryCode, binary-status, decimalStatus, decimalCode, decimalListed, decimal-status}
 use Rattle.codes.specs.Codes.{markerOf, markerCode, markerListed, marker-of, categoryOf, category-of, flagBit, flag-of}
-use Rattle.frequencies.specs.Frequencies.{tensCode, legalFrequency}
+use Rattle.frequencies.specs.Frequencies.{tensCode, legalFrequency, frequencyIn}
 use Rattle.records.specs.Kinds.{kindOf}
 use Rattle.records.specs.Layouts.{wordLayout}
 use Rattle.frequencies.specs.declared.Band.{Band}
@@ -25,7 +25,7 @@ use Rattle.records.specs.declared.Body.{Body}
 use Rattle.codes.specs.declared.Marker.{Marker}
 use Rattle.codes.specs.declared.Marker.the-variants.{None, Outer, Middle, Inner}
 use Rattle.statuses.specs.declared.Status.{Status}
-use Rattle.decode.specs.Rules.{Rules, rules, decimal, frequencyIn, bodyOf}
+use Rattle.decode.specs.Rules.{Rules, rules, decimal, bodyOf}
 use Rattle.encode.specs.Fields.{fieldsOf, statusBits}
 use Rattle.encode.specs.Encode.{codesListed, valuesLegal}
 use Rattle.roundtrip.specs.Digits.{frequency-back, tens-code-listed}

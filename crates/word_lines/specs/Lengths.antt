@@ -13,7 +13,7 @@ use Rattle.bits.specs.Fields.{bits}
 use Rattle.bits.specs.Complement.{signed, signed-holds}
 use Rattle.rounding.specs.Rounding.{roundEven}
 use Rattle.rounding.specs.Parts as parts
-use Rattle.frequencies.specs.Frequencies.{frequencyOf, tens-le, offset-le}
+use Rattle.frequencies.specs.Frequencies.{frequencyOf, tens-le, offset-le, frequencyIn}
 use Rattle.refusals.specs.Numbers.{numberOf, number-bounds}
 use Rattle.frequencies.specs.declared.Band.{Band}
 use Rattle.records.specs.declared.Kind.{Kind}
@@ -22,7 +22,7 @@ use Rattle.refusals.specs.declared.Refusal.{Refusal}
 use Rattle.statuses.specs.declared.Status.{Status}
 use Rattle.labels.specs.Assignment.{document01}
 use Rattle.labels.specs.Label.{labelOf}
-use Rattle.decode.specs.Rules.{frequencyIn, bodyOf}
+use Rattle.decode.specs.Rules.{bodyOf}
 use Rattle.decode.specs.Decode.{decodeOf}
 use Rattle.decode.specs.declared.Decoded.{Decoded}
 use Rattle.roundtrip.specs.Reading.{accepted}

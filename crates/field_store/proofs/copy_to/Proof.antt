@@ -10,8 +10,6 @@ use lib.ListN.{length, getD, set, length-set}
 use lib.Seq.{paste, paste-zero, paste-suc}
 use Rattle.field_store.proofs.copy_to.Statement.{statement}
 use Rattle.field_store.proofs.copy_to.Tie as tie
-use Rattle.field_store.proofs.copy_to.Reads as reads
-use Rattle.field_store.proofs.copy_to.Lts as lts
 
 abbrev Inv-loop : tie.InvT-loop
 Inv-loop out₀ at content i₀ out i = (i ≤ length content) × (length out ≡ length out₀) × (out ≡ paste out₀ at content i)

@@ -11,8 +11,8 @@ use Rattle.refusals.specs.declared.Refusal.{Refusal}
 use Rattle.decode.specs.declared.Judgement.{Judgement}
 use Rattle.decode.specs.Rules.{decimal}
 use Rattle.decode.specs.Decode.{digits-broken, codes-broken, codes-kept}
-use Rattle.clear_words.proofs.frequency_judgement.Statement.{statement}
-use Rattle.clear_words.proofs.frequency_judgement.Tie as tie
+use Rattle.frequency_words.proofs.frequency_judgement.Statement.{statement}
+use Rattle.frequency_words.proofs.frequency_judgement.Tie as tie
 
 returns : tie.Need-returns
 returns c = sym (digits-broken (decimal (c .before .args .band) (c .before .args .word)) (not-true _ (c .if1 .taken)))

@@ -3,9 +3,9 @@
 use Prim.Native.Nat.{_/_, _%_, _≤_}
 use native.Mathlib.Omega.{arith}
 use borrow.Author.Needs.{needs}
 use Rattle.frequencies.specs.Frequencies.{tens-le, offset-le}
-use Rattle.clear_words.proofs.frequency_in.Statement.{statement}
-use Rattle.clear_words.proofs.frequency_in.Tie as tie
+use Rattle.frequencies.proofs.frequency_in.Statement.{statement}
+use Rattle.frequencies.proofs.frequency_in.Tie as tie
 
 -- the tens digit of a code of 3 bits is small
 small : (c : tie.After-tens-of) → c .tens-of .result ≤ 15

@@ -1,8 +1,8 @@
 -- The test picks the case.
 -- Assumes nothing.
 use borrow.Author.Needs.{needs}
-use Rattle.clear_words.proofs.kept_if.Statement.{statement}
-use Rattle.clear_words.proofs.kept_if.Tie as tie
+use Rattle.judgements.proofs.kept_if.Statement.{statement}
+use Rattle.judgements.proofs.kept_if.Tie as tie
 
 returns : tie.Need-returns
 returns c = search needs

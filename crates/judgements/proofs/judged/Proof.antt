@@ -1,8 +1,8 @@
 -- By the judgement's case.
 -- Assumes nothing.
 use borrow.Author.Needs.{needs}
-use Rattle.clear_words.proofs.judged.Statement.{statement}
-use Rattle.clear_words.proofs.judged.Tie as tie
+use Rattle.judgements.proofs.judged.Statement.{statement}
+use Rattle.judgements.proofs.judged.Tie as tie
 
 enum-told : tie.Need-enum-told
 enum-told c = search needs
