@@ -14,7 +14,7 @@ ghost use mathlib.Core.Bool.{cond};
 ghost use lib.Dec.{eqb};
 ghost use Rattle.bits.specs.Fields.{bits};
 ghost use Rattle.statuses.specs.Statuses.{binaryStatus};
-ghost use Rattle.decode.specs.Kinds.{decodeClear};
+ghost use Rattle.decode.specs.Decode.{decodeClear};
 
 // The rule of a part: bits 30 and 31 are the part's code.
 fn part_judgement(code: u32, word: u32) -> Judgement

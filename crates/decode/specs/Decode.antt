@@ -33,9 +33,13 @@ abbrev pub judged : Judgement → Record → Decoded
 judged Judgement.Kept r = Decoded.Accepted r
 judged (Judgement.Broken f) r = Decoded.Refused f
 
+-- a word of a known kind whose zero bits are zero
+abbrev pub decodeClear : Kind → ℕ → Decoded
+decodeClear k w = judged (judgement (rules k w)) (recordOf k w)
+
 -- a word of a known kind
 abbrev pub decodeKind : Kind → ℕ → Decoded
-decodeKind k w = cond (clear (wordLayout k) w) (judged (judgement (rules k w)) (recordOf k w)) (Decoded.Refused Refusal.ZeroBit)
+decodeKind k w = cond (clear (wordLayout k) w) (decodeClear k w) (Decoded.Refused Refusal.ZeroBit)
 
 -- a word whose label stands for a kind or for none
 abbrev pub decodeFound : Lookup → ℕ → Decoded
@@ -68,7 +72,7 @@ codes-kept r d c a = rw (d, c, a)
 pub zeros-broken : (k : Kind) (w : ℕ) → clear (wordLayout k) w ≡ false → decodeKind k w ≡ Decoded.Refused Refusal.ZeroBit
 zeros-broken k w z = rw z
 
-pub zeros-kept : (k : Kind) (w : ℕ) → clear (wordLayout k) w ≡ true → decodeKind k w ≡ judged (judgement (rules k w)) (recordOf k w)
+pub zeros-kept : (k : Kind) (w : ℕ) → clear (wordLayout k) w ≡ true → decodeKind k w ≡ decodeClear k w
 zeros-kept k w z = rw z
 
 pub parity-broken : (l : Lookup) (w : ℕ) → odd w ≡ false → decodeAs l w ≡ Decoded.Refused Refusal.Parity

@@ -93,9 +93,6 @@ encodeAs l r = cond (leb l 255) (encodeUnder l r) (Encoded.Refused Refusal.Label
 abbrev pub recordLabel : Assignment → Record → ℕ
 recordLabel a r = a .label (kindOf (r .body))
 
-abbrev pub lowerBits : Assignment → Record → ℕ
-lowerBits a r = lowerAs (recordLabel a r) r
-
 abbrev pub wordOf : Assignment → Record → ℕ
 wordOf a r = wordAs (recordLabel a r) r
 

@@ -10,8 +10,7 @@ ghost use mathlib.Core.Path.{_≡_};
 ghost use Rattle.bits.specs.Fields.{bits};
 ghost use Rattle.statuses.specs.Statuses.{decimalStatus};
 ghost use Rattle.decode.specs.Rules.{decimal};
-ghost use Rattle.decode.specs.Decode.{judgement};
-ghost use Rattle.decode.specs.Kinds.{decodeClear};
+ghost use Rattle.decode.specs.Decode.{judgement, decodeClear};
 
 // The rules of a frequency word.
 fn frequency_judgement(band: Band, word: u32) -> Judgement
