@@ -9,7 +9,8 @@ use Rattle.fields.specs.Run.{Field, Scan, Fields, Refused, sheetOf}
 use Rattle.text.specs.Ascii.{ascii}
 use Rattle.numerals.specs.Digits.{decimal}
 use Rattle.lines.specs.Lines.{refusalLine}
-use Rattle.field_texts.specs.FieldTexts.{hexByte, contentText}
+use Rattle.hex_texts.specs.HexTexts.{hexByte}
+use Rattle.field_texts.specs.FieldTexts.{contentText}
 
 abbrev pub placeText : (place depth : ℕ) → List ℕ
 placeText p d = decimal p ++ (ascii " " ++ decimal d) ++ ascii " "

@@ -22,7 +22,8 @@ use Rattle.numerals.specs.Digits.{octal3, signedFixed}
 use Rattle.numerals.specs.Theorems.{decimal-length, padded-length, signed-length}
 use Rattle.lines.specs.Lengths.{refusal-line-length}
 use Rattle.listing.specs.Size.{own, owned, fields-owned, refusal-short}
-use Rattle.field_texts.specs.FieldTexts.{hexByte, each, noteByte, isPlain, figureWords, figureText, contentText}
+use Rattle.hex_texts.specs.HexTexts.{hexByte}
+use Rattle.field_texts.specs.FieldTexts.{each, noteByte, isPlain, figureWords, figureText, contentText}
 use Rattle.field_lines.specs.FieldLines.{headText, lineOf, linesOf, fieldsText, textOf}
 
 -- ---- contents

@@ -13,7 +13,8 @@ use Rattle.fields.specs.Start.{tagOf}
 use Rattle.fields.specs.Run.{Field}
 use Rattle.text.specs.Ascii.{ascii}
 use Rattle.numerals.specs.Digits.{decimal}
-use Rattle.field_texts.specs.FieldTexts.{hexByte, contentText}
+use Rattle.hex_texts.specs.HexTexts.{hexByte}
+use Rattle.field_texts.specs.FieldTexts.{contentText}
 use Rattle.field_texts.specs.Reading.{Printable}
 use Rattle.field_texts.specs.TheoremsLemmas.{printable-both, blank-printable, decimal-printable, hex-byte-printable}
 use Rattle.field_texts.specs.Theorems.{content-printable}

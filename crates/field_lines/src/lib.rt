@@ -28,7 +28,7 @@ fn put_head(out: &mut [u8], at: usize, field: FieldAt) -> usize
     let kind = field.kind;
     let tag = field_headers::tag_of(kind);
     let first = put_place(out, at, field.place, field.depth);
-    let second = field_texts::put_hex_byte(out, first, tag);
+    let second = hex_texts::put_hex_byte(out, first, tag);
     number_texts::put_named(out, second, b" ", field.length as u64)
 }
 

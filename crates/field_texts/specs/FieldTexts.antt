@@ -3,27 +3,18 @@
 use mathlib.Core.Path.{_≡_, refl, sym, ap, _∙_}
 use mathlib.Core.Bool.{Bool, true, false, not, cond, _&&_}
 use mathlib.Core.List.{List, [], _∷_, _++_, append-nil, append-assoc}
-use Prim.Native.Nat.{ℕ, zero, suc, _+_, _/_, _%_, _≤_, _<_}
+use Prim.Native.Nat.{ℕ, zero, suc, _+_, _<_}
 use native.Mathlib.Omega.{arith}
-use borrow.Author.Tests.{lt-ltb, le-ltb}
 use lib.Dec.{eqb, ltb}
-use lib.IntN.{ℤ, pos, negsuc, natAbs}
 use lib.ListN.{length, take, getD}
-use Rattle.rounding.specs.Parts.{isNegative}
 use Rattle.fields.specs.declared.FieldKind.{FieldKind}
 use Rattle.contents.specs.declared.FigureIn.{FigureIn}
 use Rattle.contents.specs.Contents.{figureIn}
 use Rattle.text.specs.Ascii.{ascii}
-use Rattle.numerals.specs.Digits.{octal3, fixed, sign, signedFixed}
+use Rattle.hex_texts.specs.HexTexts.{hexByte}
+use Rattle.numerals.specs.Digits.{octal3, signedFixed}
 
--- ---- hex digits, A to F for 10 to 15
-
-abbrev pub hexDigit : ℕ → ℕ
-hexDigit d = cond (ltb d 10) (48 + d) (55 + d)
-
--- a byte in two digits, the higher first
-abbrev pub hexByte : ℕ → List ℕ
-hexByte b = hexDigit (b / 16 % 16) ∷ hexDigit (b % 16) ∷ []
+-- ---- bytes in hex
 
 -- what each byte is written as, one behind the other
 abbrev pub each : (ℕ → List ℕ) → List ℕ → List ℕ
@@ -76,21 +67,9 @@ each-suc f bs i h = let e : suc i ≡ i + 1 = omega arith in go bs i h ∙ ap (�
     go (b ∷ l) zero k = sym (append-nil (f b))
     go (b ∷ l) (suc n) k = append-assoc (f b) (each f (take n l)) (f (getD l n 0)) ∙ ap (λ (t : List ℕ). f b ++ t) (go l n (omega arith))
 
--- a digit by whether it is below ten
-pub digit-below : (d : ℕ) → d < 10 → (48 + d) ∷ [] ≡ hexDigit d ∷ []
-digit-below d h = rw (lt-ltb d 10 h) refl
-
-pub digit-above : (d : ℕ) → 10 ≤ d → (55 + d) ∷ [] ≡ hexDigit d ∷ []
-digit-above d h = rw (le-ltb d 10 h) refl
-
 -- a byte of a note by the test of it
 pub plain-byte : (b : ℕ) → isPlain b ≡ true → b ∷ [] ≡ noteByte b
 plain-byte b e = rw e refl
 
 pub escaped-byte : (b : ℕ) → isPlain b ≡ false → ascii "\\x" ++ hexByte b ≡ noteByte b
 escaped-byte b e = rw e refl
-
--- the sign and the size of a number
-pub sign-size : (z : ℤ) → sign (isNegative z) ++ fixed 6 (natAbs z) ≡ signedFixed 6 z
-sign-size (pos n) = refl
-sign-size (negsuc n) = refl

@@ -3,7 +3,7 @@
 use mathlib.Core.Path.{_≡_, refl, sym, ap, _∙_}
 use mathlib.Core.Bool.{Bool, true, false, cond}
 use mathlib.Core.List.{List, [], _∷_}
-use Prim.Native.Nat.{ℕ, _+_, _*_, _^_, _<_}
+use Prim.Native.Nat.{ℕ, _+_, _*_, _^_}
 use native.Mathlib.Omega.{arith}
 use borrow.Author.Tests.{eqb-true}
 use lib.Dec.{eqb}
@@ -14,15 +14,13 @@ use Rattle.contents.specs.declared.WordIn.{WordIn}
 use Rattle.contents.specs.BigEndian.{valueOf, Bytes}
 use Rattle.contents.specs.Contents.{wordIn, figureIn}
 use Rattle.text.specs.Ascii.{ascii}
-use Rattle.field_texts.specs.FieldTexts.{hexByte, hexBytes, noteByte, noteText, figureText, contentText}
-use Rattle.field_texts.specs.Reading.{hexValue, unescaped, Printable}
-use Rattle.field_texts.specs.TheoremsLemmas.{byte-means, bytes-after, bytes-length, byte-read, byte-printable, hex-byte-printable, each-printable, printable-both, blank-printable, figure-printable}
+use Rattle.hex_texts.specs.HexTexts.{hexByte}
+use Rattle.hex_texts.specs.Reading.{hexValue}
+use Rattle.field_texts.specs.FieldTexts.{hexBytes, noteByte, noteText, figureText, contentText}
+use Rattle.field_texts.specs.Reading.{unescaped, Printable}
+use Rattle.field_texts.specs.TheoremsLemmas.{bytes-after, bytes-length, byte-read, byte-printable, hex-byte-printable, each-printable, printable-both, blank-printable, figure-printable}
 
 -- ---- hex digits
-
--- The two digits of a byte mean that byte.
-pub hex-byte-read : (b : ℕ) → b < 256 → hexValue (hexByte b) ≡ b
-hex-byte-read = byte-means
 
 -- The digits of bytes mean the number of the bytes, high byte first.
 pub hex-bytes-read : (bs : List ℕ) → Bytes bs → hexValue (hexBytes bs) ≡ valueOf bs

@@ -1,13 +1,12 @@
--- What the proofs of `Theorems` cite: digits one at a time, a byte of a note by the test of it, and texts of printable ASCII joined.
+-- What the proofs of `Theorems` cite: the digits of bytes, a byte of a note by the test of it, and texts of printable ASCII joined.
 -- Assumes nothing.
-use mathlib.Core.Path.{_≡_, refl, sym, ap, subst, _∙_}
+use mathlib.Core.Path.{_≡_, refl, sym, ap, _∙_}
 use mathlib.Core.Bool.{Bool, true, false, not, cond, _&&_, false≢true}
 use mathlib.Core.List.{List, [], _∷_, _++_}
-use Prim.Native.Nat.{ℕ, zero, suc, _+_, _*_, _/_, _%_, _^_, _≤_, _<_}
+use Prim.Native.Nat.{ℕ, suc, _+_, _*_, _/_, _%_, _^_, _≤_, _<_}
 use native.Mathlib.Nat.{add-mul, mul-assoc}
-use native.Mathlib.Decide.{decLe}
 use native.Mathlib.Omega.{arith}
-use borrow.Author.Tests.{eqb-true, ltb-true, not-true}
+use borrow.Author.Tests.{ltb-true, not-true}
 use lib.Dec.{eqb, ltb}
 use lib.IntN.{ℤ, pos, negsuc}
 use lib.ListN.{length, take, drop}
@@ -15,49 +14,14 @@ use lib.Pow.{pow-add}
 use Rattle.contents.specs.declared.FigureIn.{FigureIn}
 use Rattle.contents.specs.BigEndian.{valueOf, Bytes}
 use Rattle.text.specs.Ascii.{ascii}
+use Rattle.hex_texts.specs.HexTexts.{hexDigit, hexByte}
+use Rattle.hex_texts.specs.Reading.{hexFrom, hexValue}
+use Rattle.hex_texts.specs.Every.{both}
+use Rattle.hex_texts.specs.Theorems.{byte-after, hex-byte-read}
 use Rattle.numerals.specs.Digits.{decimal, padded, octal3, fixed, signedFixed}
 use Rattle.numerals.specs.Theorems.{Digits, decimal-digits, padded-digits}
-use Rattle.field_texts.specs.FieldTexts.{figureWords, hexDigit, hexByte, each, hexBytes, isPlain, noteByte}
-use Rattle.field_texts.specs.Reading.{hexDigits, placeIn, hexFrom, hexValue, unescapedFrom, unescaped, Printable}
-
--- ---- two tests, both passed
-
-both : (s t : Bool) → s && t ≡ true → (s ≡ true) × (t ≡ true)
-both true t e = (refl, e)
-both false t e = absurd (false≢true e)
-
--- ---- a digit's place is its value: computed for the sixteen
-
-abbrev placed : ℕ → Bool
-placed zero = true
-placed (suc n) = eqb (placeIn hexDigits (hexDigit n)) n && placed n
-
-placed-at : (n d : ℕ) → placed n ≡ true → d < n → placeIn hexDigits (hexDigit d) ≡ d
-placed-at zero d e h = absurd (omega arith)
-placed-at (suc n) d e h =
-    let here : (eqb (placeIn hexDigits (hexDigit n)) n ≡ true) × (placed n ≡ true) = both (eqb (placeIn hexDigits (hexDigit n)) n) (placed n) e in
-    go (decLe n d) (here .0) (λ k. placed-at n d (here .1) k)
-  where
-    go : Dec (n ≤ d) → eqb (placeIn hexDigits (hexDigit n)) n ≡ true → (d < n → placeIn hexDigits (hexDigit d) ≡ d) → placeIn hexDigits (hexDigit d) ≡ d
-    go (yes k) last below = let same : n ≡ d = omega arith in subst (λ (x : ℕ). placeIn hexDigits (hexDigit x) ≡ x) same (eqb-true (placeIn hexDigits (hexDigit n)) n last)
-    go (no k) last below = below (omega arith)
-
-digit-means : (d : ℕ) → d < 16 → placeIn hexDigits (hexDigit d) ≡ d
-digit-means d h = placed-at 16 d refl h
-
--- ---- a byte's digits, behind a number that was read
-
-two-digits : (v b x y : ℕ) → b < 256 → x ≡ b / 16 % 16 → y ≡ b % 16 → (v * 16 + x) * 16 + y ≡ v * 256 + b
-two-digits v b x y h e f = omega arith
-
-byte-after : (v b : ℕ) → b < 256
-    → (v * 16 + placeIn hexDigits (hexDigit (b / 16 % 16))) * 16 + placeIn hexDigits (hexDigit (b % 16)) ≡ v * 256 + b
-byte-after v b h =
-    two-digits v b (placeIn hexDigits (hexDigit (b / 16 % 16))) (placeIn hexDigits (hexDigit (b % 16))) h
-    (digit-means (b / 16 % 16) (omega arith)) (digit-means (b % 16) (omega arith))
-
-pub byte-means : (b : ℕ) → b < 256 → hexValue (hexByte b) ≡ b
-byte-means b h = byte-after 0 b h ∙ omega arith
+use Rattle.field_texts.specs.FieldTexts.{figureWords, each, hexBytes, isPlain, noteByte}
+use Rattle.field_texts.specs.Reading.{unescapedFrom, unescaped, Printable}
 
 -- ---- the digits of bytes
 
@@ -97,7 +61,7 @@ byte-read b h t = by (isPlain b) refl
 
     by : (p : Bool) → isPlain b ≡ p → unescaped (cond p (b ∷ []) (ascii "\\x" ++ hexByte b) ++ t) ≡ b ∷ unescaped t
     by true e = itself (eqb b 92) (plain-parts b e .1)
-    by false e = ap (λ (x : ℕ). x ∷ unescaped t) (byte-means b h)
+    by false e = ap (λ (x : ℕ). x ∷ unescaped t) (hex-byte-read b h)
 
 -- ---- printable ASCII
 

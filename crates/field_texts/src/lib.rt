@@ -1,30 +1,8 @@
 // The content of a field as text into a buffer: what fits is stored and all is counted, as in the crate `text`.
 use contents::FigureIn;
 use fields::FieldKind;
-ghost use mathlib.Core.List.{[], _∷_};
-ghost use Prim.Native.Nat.{_%_};
 ghost use Rattle.text.specs.Writing.{Writes};
-ghost use Rattle.numerals.specs.Digits.{signedFixed};
-ghost use Rattle.field_texts.specs.FieldTexts.{hexDigit, hexByte, hexBytes, noteByte, noteText, figureText, contentText};
-
-// The lowest hex digit of a number.
-fn put_hex_digit(out: &mut [u8], at: usize, number: u8) -> usize
-    ensures { λ r. ⌜ Writes (now (out .entry)) at (hexDigit (number % 16) ∷ []) (now (out .exit)) r ⌝ }
-{
-    let digit = number % 16;
-    if digit < 10 {
-        return text::put_byte(out, at, 48 + digit);
-    }
-    text::put_byte(out, at, 55 + digit)
-}
-
-// A byte in two hex digits.
-pub fn put_hex_byte(out: &mut [u8], at: usize, byte: u8) -> usize
-    ensures { λ r. ⌜ Writes (now (out .entry)) at (hexByte byte) (now (out .exit)) r ⌝ }
-{
-    let second = put_hex_digit(out, at, byte / 16);
-    put_hex_digit(out, second, byte)
-}
+ghost use Rattle.field_texts.specs.FieldTexts.{hexBytes, noteByte, noteText, figureText, contentText};
 
 // Bytes in hex, two digits each.
 fn put_hex(out: &mut [u8], at: usize, bytes: &[u8]) -> usize
@@ -33,7 +11,7 @@ fn put_hex(out: &mut [u8], at: usize, bytes: &[u8]) -> usize
     let mut next = at;
     let mut i = 0;
     while i < bytes.len() {
-        next = put_hex_byte(out, next, bytes[i]);
+        next = hex_texts::put_hex_byte(out, next, bytes[i]);
         i += 1;
     }
     next
@@ -47,7 +25,7 @@ fn put_note_byte(out: &mut [u8], at: usize, byte: u8) -> usize
         return text::put_byte(out, at, byte);
     }
     let digits = text::put_text(out, at, b"\\x");
-    put_hex_byte(out, digits, byte)
+    hex_texts::put_hex_byte(out, digits, byte)
 }
 
 // The text of a note.
@@ -63,15 +41,6 @@ fn put_note(out: &mut [u8], at: usize, bytes: &[u8]) -> usize
     next
 }
 
-// A number of millionths, with six decimals.
-fn put_millionths(out: &mut [u8], at: usize, millionths: i64) -> usize
-    ensures { λ r. ⌜ Writes (now (out .entry)) at (signedFixed 6 millionths) (now (out .exit)) r ⌝ }
-{
-    let negative = rounding::is_negative(millionths);
-    let size = rounding::magnitude(millionths);
-    decimals::put_signed(out, at, negative, 6, size)
-}
-
 // The label and the number of a figure field.
 fn put_figure(out: &mut [u8], at: usize, content: &[u8]) -> usize
     ensures { λ r. ⌜ Writes (now (out .entry)) at (figureText (now (content .entry))) (now (out .exit)) r ⌝ }
@@ -80,7 +49,7 @@ fn put_figure(out: &mut [u8], at: usize, content: &[u8]) -> usize
         FigureIn::Figure(label, millionths) => {
             let blank = number_texts::put_octal3(out, at, label as u32);
             let number = text::put_byte(out, blank, 32);
-            put_millionths(out, number, millionths)
+            number_texts::put_millionths(out, number, millionths)
         }
         FigureIn::Refused(_) => at,
     }

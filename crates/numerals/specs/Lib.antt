@@ -1,3 +1,4 @@
 pub mod Digits
 pub mod Theorems
+pub mod Values
 mod Examples

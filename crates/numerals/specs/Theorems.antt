@@ -136,7 +136,7 @@ valueFrom base v (d ∷ t) = valueFrom base (v * base + (d - 48)) t
 abbrev pub value : ℕ → List ℕ → ℕ
 value base t = valueFrom base 0 t
 
-value-append : (base v : ℕ) (s t : List ℕ) → valueFrom base v (s ++ t) ≡ valueFrom base (valueFrom base v s) t
+pub value-append : (base v : ℕ) (s t : List ℕ) → valueFrom base v (s ++ t) ≡ valueFrom base (valueFrom base v s) t
 value-append base v [] t = refl
 value-append base v (d ∷ s) t = value-append base (v * base + (d - 48)) s t
 

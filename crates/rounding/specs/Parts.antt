@@ -40,6 +40,11 @@ pub withSign-natAbs : (z : ℤ) → withSign (isNegative z) (natAbs z) ≡ z
 withSign-natAbs (pos n) = refl
 withSign-natAbs (negsuc n) = refl
 
+pub natAbs-withSign : (negative : Bool) (n : ℕ) → natAbs (withSign negative n) ≡ n
+natAbs-withSign false n = refl
+natAbs-withSign true zero = refl
+natAbs-withSign true (suc n) = refl
+
 -- how far two natural numbers lie apart
 abbrev pub distance : ℕ → ℕ → ℕ
 distance a b = (a - b) + (b - a)

@@ -2,6 +2,7 @@
 // then `refused` and the number of the refusal, or the coded word in hexadecimal, between single spaces. The second file has document
 // 01's own lines, and in the third four lines of the first are wrong.
 use encode::Encoded;
+use signed_numbers::Signed;
 use test_vectors::Tally;
 ghost use mathlib.Core.Path.{_≡_};
 ghost use Rattle.test_figures.specs.Vectors.{right};
@@ -35,35 +36,17 @@ fn is_right(expected: Expected) -> bool
     }
 }
 
-// The number of a sign and a size. One that 64 bits do not hold gives 0.
-fn with_sign(negative: bool, size: u64) -> i64 {
-    if negative {
-        if size == 0 {
-            return 0;
-        }
-        let rest = size - 1;
-        if 9223372036854775807 < rest {
-            return 0;
-        }
-        return !(rest as i64);
-    }
-    if 9223372036854775807 < size {
-        return 0;
-    }
-    size as i64
-}
-
 // The number of the refusal in `refused N`, or 0 and the word.
 fn answer_in(text: &[u8]) -> Answer {
-    let refusal = vector_parts::text_behind(text, b' ');
+    let refusal = typed_parts::text_behind(text, b' ');
     if refusal.len() == 0 {
-        let word = vector_numbers::read_number(text, 16, 18446744073709551615);
+        let word = typed_numbers::read_number(text, 16, 18446744073709551615);
         return Answer {
             refusal: 0,
             word: word.value,
         };
     }
-    let number = vector_numbers::read_number(refusal, 10, 18446744073709551615);
+    let number = typed_numbers::read_number(refusal, 10, 18446744073709551615);
     Answer {
         refusal: number.value,
         word: 0,
@@ -72,28 +55,29 @@ fn answer_in(text: &[u8]) -> Answer {
 
 // Whether the three numbers of a line are well formed, and the answer after them is right.
 fn is_line_right(line: &[u8]) -> bool {
-    let after_label = vector_parts::text_behind(line, b' ');
-    let after_source = vector_parts::text_behind(after_label, b' ');
-    let figure = vector_parts::text_before(after_source, b' ');
-    let label = vector_numbers::read_number(
-        vector_parts::text_before(line, b' '),
+    let after_label = typed_parts::text_behind(line, b' ');
+    let after_source = typed_parts::text_behind(after_label, b' ');
+    let figure = typed_parts::text_before(after_source, b' ');
+    let label = typed_numbers::read_number(
+        typed_parts::text_before(line, b' '),
         8,
         18446744073709551615,
     );
-    let source = vector_numbers::read_number(
-        vector_parts::text_before(after_label, b' '),
+    let source = typed_numbers::read_number(
+        typed_parts::text_before(after_label, b' '),
         10,
         18446744073709551615,
     );
-    let size = vector_numbers::read_size(figure, 18446744073709551615);
-    let negative = vector_parts::starts_with(figure, b'-');
+    let Signed::Number(millionths) = test_numbers::read_signed(figure) else {
+        return false;
+    };
     let right = is_right(Expected {
         label: label.value,
         source: source.value,
-        millionths: with_sign(negative, size.value),
-        answer: answer_in(vector_parts::text_behind(after_source, b' ')),
+        millionths,
+        answer: answer_in(typed_parts::text_behind(after_source, b' ')),
     });
-    (label.good & source.good) & (size.good & right)
+    (label.good & source.good) & right
 }
 
 // The tally of a text's lines.
@@ -105,9 +89,9 @@ fn tally_of(text: &[u8]) -> Tally {
     };
     let mut start = 0;
     while start < text.len() {
-        let line = vector_parts::text_before(&text[start..], b'\n');
+        let line = typed_parts::text_before(&text[start..], b'\n');
         tally = test_vectors::with_line(tally, is_line_right(line));
-        start = text.len() - vector_parts::text_behind(&text[start..], b'\n').len();
+        start = text.len() - typed_parts::text_behind(&text[start..], b'\n').len();
     }
     tally
 }

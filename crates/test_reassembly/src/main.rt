@@ -22,36 +22,36 @@ fn last_part(held: Reassembly) -> u64 {
 
 // Whether a text is this number.
 fn is_number(text: &[u8], value: u64) -> bool {
-    let read = vector_numbers::read_number(text, 10, 18446744073709551615);
+    let read = typed_numbers::read_number(text, 10, 18446744073709551615);
     read.good & (read.value == value)
 }
 
 // Whether a text is this number of bits and this parity.
 fn is_joined(text: &[u8], bits: u64, parity_good: bool) -> bool {
     let letter = if parity_good { b'T' } else { b'F' };
-    is_number(vector_parts::text_before(text, b' '), bits)
-        & vector_parts::starts_with(vector_parts::text_behind(text, b' '), letter)
+    is_number(typed_parts::text_before(text, b' '), bits)
+        & typed_parts::starts_with(typed_parts::text_behind(text, b' '), letter)
 }
 
 // Whether what stands beside a word says this answer, `part` being the last part that is then held: `begun C N`, `joined C BITS MARK` or `refused N`.
 fn says(text: &[u8], answer: WordAnswer, part: u64) -> bool {
-    let rest = vector_parts::text_behind(text, b' ');
+    let rest = typed_parts::text_behind(text, b' ');
     match answer {
         WordAnswer::Incomplete => {
-            vector_parts::starts_with(text, b'b')
-                & is_number(vector_parts::text_behind(rest, b' '), part)
+            typed_parts::starts_with(text, b'b')
+                & is_number(typed_parts::text_behind(rest, b' '), part)
         }
         WordAnswer::Complete(group) => {
-            vector_parts::starts_with(text, b'j')
+            typed_parts::starts_with(text, b'j')
                 & is_joined(
-                    vector_parts::text_behind(rest, b' '),
+                    typed_parts::text_behind(rest, b' '),
                     group.bits,
                     group.parity_good,
                 )
         }
         WordAnswer::Refused(refusal) => {
             let number = refusals::number(refusal);
-            vector_parts::starts_with(text, b'r') & is_number(rest, number as u64)
+            typed_parts::starts_with(text, b'r') & is_number(rest, number as u64)
         }
     }
 }
@@ -59,13 +59,13 @@ fn says(text: &[u8], answer: WordAnswer, part: u64) -> bool {
 // Takes one line: a word in hexadecimal, and the answer that it must get.
 fn take_line(progress: Progress, line: &[u8]) -> Progress {
     let held = progress.held;
-    let word = vector_numbers::read_number(vector_parts::text_before(line, b' '), 16, 4294967295);
+    let word = typed_numbers::read_number(typed_parts::text_before(line, b' '), 16, 4294967295);
     let step = held.take((word.value % 4294967296) as u32);
     let next = step.next;
     let answer = step.answer;
     let partial = next.group_c;
     let right = says(
-        vector_parts::text_behind(line, b' '),
+        typed_parts::text_behind(line, b' '),
         answer,
         last_part(partial),
     );
@@ -88,9 +88,9 @@ fn tally_of(text: &[u8]) -> Tally {
     };
     let mut start = 0;
     while start < text.len() {
-        let line = vector_parts::text_before(&text[start..], b'\n');
+        let line = typed_parts::text_before(&text[start..], b'\n');
         progress = take_line(progress, line);
-        start = text.len() - vector_parts::text_behind(&text[start..], b'\n').len();
+        start = text.len() - typed_parts::text_behind(&text[start..], b'\n').len();
     }
     progress.tally
 }

@@ -71,19 +71,15 @@ fn is_right(expected: Expected) -> bool
 
 // Whether a line is well formed and right about its word.
 fn is_line_right(line: &[u8]) -> bool {
-    let rest = vector_parts::text_behind(line, b' ');
-    let count = vector_parts::text_behind(rest, b' ');
-    let word = vector_numbers::read_number(vector_parts::text_before(line, b' '), 16, 4294967295);
-    let refusal = vector_numbers::read_number(
-        vector_parts::text_before(rest, b' '),
-        10,
-        4294967295,
-    );
-    let size = vector_numbers::read_size(count, 4294967295);
+    let rest = typed_parts::text_behind(line, b' ');
+    let count = typed_parts::text_behind(rest, b' ');
+    let word = typed_numbers::read_number(typed_parts::text_before(line, b' '), 16, 4294967295);
+    let refusal = typed_numbers::read_number(typed_parts::text_before(rest, b' '), 10, 4294967295);
+    let size = typed_numbers::read_size(count, 4294967295);
     let right = is_right(Expected {
         word: (word.value % 4294967296) as u32,
         refusal: (refusal.value % 4294967296) as u32,
-        negative: vector_parts::starts_with(count, b'-'),
+        negative: typed_parts::starts_with(count, b'-'),
         size: (size.value % 4294967296) as u32,
     });
     (word.good & refusal.good) & (size.good & right)
@@ -98,9 +94,9 @@ fn tally_of(text: &[u8]) -> Tally {
     };
     let mut start = 0;
     while start < text.len() {
-        let line = vector_parts::text_before(&text[start..], b'\n');
+        let line = typed_parts::text_before(&text[start..], b'\n');
         tally = test_vectors::with_line(tally, is_line_right(line));
-        start = text.len() - vector_parts::text_behind(&text[start..], b'\n').len();
+        start = text.len() - typed_parts::text_behind(&text[start..], b'\n').len();
     }
     tally
 }

@@ -2,7 +2,7 @@
 -- Assumes nothing.
 use mathlib.Core.Path.{_≡_, refl, subst⁻¹}
 use mathlib.Core.Bool.{Bool, true, false, cond}
-use Prim.Native.Nat.{ℕ, zero, suc, _+_, _-_, _*_, _/_, _%_, _^_, _≤_, _<_}
+use Prim.Native.Nat.{ℕ, suc, _+_, _-_, _*_, _/_, _%_, _^_, _≤_, _<_}
 use native.Mathlib.Nat.{mod-lt, div-le-self, lt-of-le-of-lt}
 use native.Mathlib.Omega.{arith}
 use lib.Dec.{ltb, lit<}
@@ -53,11 +53,6 @@ number-length negative k places n h = omega (arith, length-append (sign negative
 whole-length : (places n : ℕ) → places ≤ 2 → n < 10 ^ 6 → Narrow (wholeFigure places n)
 whole-length places n p h = record { within = omega (arith, number-length false 5 places n (lt-of-le-of-lt (div-le-self n (10 ^ places)) h)) }
 
-natAbs-signed : (b : Bool) (n : ℕ) → natAbs (parts.withSign b n) ≡ n
-natAbs-signed false n = refl
-natAbs-signed true zero = refl
-natAbs-signed true (suc n) = refl
-
 round-above : (n d : ℕ) → roundEven n d ≤ n / d + 1
 unfolding roundEven
 round-above n d = go (ltb (n % d) (d - n % d)) (ltb (d - n % d) (n % d))
@@ -73,7 +68,7 @@ unfolding millionthsOf
 count-length q c h =
     let size : ℕ = roundEven (natAbs c * scaleOf q .numerator) (scaleOf q .denominator) in
     let r : size < 10 ^ 10 = lt-of-le-of-lt (round-above (natAbs c * scaleOf q .numerator) (scaleOf q .denominator)) h in
-    let s : natAbs (millionthsOf q c) ≡ size = natAbs-signed (parts.isNegative c) size in
+    let s : natAbs (millionthsOf q c) ≡ size = parts.natAbs-withSign (parts.isNegative c) size in
     record { within = omega (arith, number-length (parts.isNegative (millionthsOf q c)) 3 6 (natAbs (millionthsOf q c)) (omega arith)) }
 
 thirteen : (w : ℕ) → natAbs (signed 13 (bits 17 29 w)) ≤ 4096

@@ -6,7 +6,7 @@ use Prim.Native.Nat.{ℕ}
 use Rattle.text.specs.Ascii.{ascii}
 use Rattle.text.specs.Writing.{joined, named}
 use Rattle.numerals.specs.Digits.{decimal}
-use Rattle.field_texts.specs.FieldTexts.{hexByte}
+use Rattle.hex_texts.specs.HexTexts.{hexByte}
 use Rattle.field_lines.specs.FieldLines.{placeText}
 use borrow.Author.Needs.{needs}
 use Rattle.field_lines.proofs.put_head.Statement.{statement}

@@ -6,7 +6,8 @@ use lib.ListN.{length, take}
 use lib.Seq.{take-all}
 use mathlib.Core.Path.{ap}
 use Rattle.text.specs.Writing.{Writes, joined, named, empty, length-kept}
-use Rattle.field_texts.specs.FieldTexts.{hexBytes, hexByte, each-suc}
+use Rattle.hex_texts.specs.HexTexts.{hexByte}
+use Rattle.field_texts.specs.FieldTexts.{hexBytes, each-suc}
 use borrow.Author.Needs.{needs}
 use Rattle.field_texts.proofs.put_hex.Statement.{statement}
 use Rattle.field_texts.proofs.put_hex.Tie as tie

@@ -1,0 +1,6 @@
+pub mod Figures
+pub mod Grammar
+pub mod DigitTexts
+pub mod Rows
+pub mod Theorems
+mod Examples
