@@ -1,6 +1,6 @@
 -- A figure agrees with a word exactly when the word's count is the one nearest to it: decoding gives back the count that was coded.
 -- Assumes nothing.
-use mathlib.Core.Path.{_≡_, refl, sym, ap, ap₂, _∙_}
+use mathlib.Core.Path.{_≡_, refl, sym, ap, _∙_}
 use mathlib.Core.Logic.{_↔_}
 use mathlib.Core.Bool.{true, false}
 use Prim.Native.Nat.{ℕ, _≤_}
@@ -13,6 +13,7 @@ use Rattle.records.specs.declared.Kind.{Kind}
 use Rattle.records.specs.declared.Record.{Record}
 use Rattle.labels.specs.Assignment.{Assignment}
 use Rattle.labels.specs.Label.{labelOf}
+use Rattle.labels.specs.declared.Lookup.{Lookup}
 use Rattle.decode.specs.Rules.{bodyOf}
 use Rattle.decode.specs.Decode.{decodeWith}
 use Rattle.decode.specs.declared.Decoded.{Decoded}
@@ -50,12 +51,20 @@ equal-same (negsuc n) = eq-eqb n n refl
 -- ---- what a word holds
 
 -- the quantity of a word's kind, and what the word's count bits hold
-abbrev held : Measured → ℕ → Measurement
+abbrev pub held : Measured → ℕ → Measurement
 held (Measured.As q) w = Measurement.Count q (countBits q w)
 held Measured.Nothing w = Measurement.Nothing
 
 measurement-held : (k : Kind) (w : ℕ) → measurementOf (bodyOf k w) ≡ held (quantityOf k) w
 measurement-held k w = agree (λ k. measurementOf (bodyOf k w)) (λ k. held (quantityOf k) w) refl k
+
+-- an accepted word holds the count of its label's quantity
+pub accepted-held : (a : Assignment) (w : ℕ) (r : Record) → decodeWith a w ≡ Decoded.Accepted r → measurementOf (r .body) ≡ held (quantityAt a (labelOf w)) w
+accepted-held a w r e =
+    let x = accepted a w r e in
+    ap (λ (y : Record). measurementOf (y .body)) (x .2)
+    ∙ measurement-held (x .0) w
+    ∙ ap (λ (l : Lookup). held (quantityFound l) w) (sym (x .1 .label))
 
 ready-measurement : (q : Quantity) (c : ℤ) → measurementOf (readyBody q c) ≡ Measurement.Count q c
 ready-measurement Azimuth c = refl
@@ -94,13 +103,9 @@ module _ (a : Assignment) (figure : ℤ) where
 
       go : (d : Decoded) → decodeWith a w ≡ d → sameCount (wordMeasurement a w) coding ≡ holdsNearest (wordMeasurement a w) figure
       go (Decoded.Accepted r) e =
-          let x = accepted a w r e in
-          let k = x .0 in
-          let m : wordMeasurement a w ≡ held (quantityOf k) w =
-          ap decodedMeasurement e ∙ ap (λ (y : Record). measurementOf (y .body)) (x .2) ∙ measurement-held k w in
-          let q : quantityAt a (labelOf w) ≡ quantityOf k = ap quantityFound (x .1 .label) in
-          ap₂ (λ (u : Measurement) (v : Measured). sameCount u (codedMeasurement a (codedMeasured v (labelOf w) (bits 9 10 w) figure))) m q
-          ∙ by-quantity w (quantityOf k) q
+          let m : wordMeasurement a w ≡ held (quantityAt a (labelOf w)) w = ap decodedMeasurement e ∙ accepted-held a w r e in
+          ap (λ (u : Measurement). sameCount u coding) m
+          ∙ by-quantity w (quantityAt a (labelOf w)) refl
           ∙ ap (λ (u : Measurement). holdsNearest u figure) (sym m)
       go (Decoded.Refused f) e =
           ap (λ (u : Measurement). sameCount u coding) (ap decodedMeasurement e)

@@ -12,7 +12,7 @@ use views::Value;
 use views::View;
 ghost use mathlib.Core.Path.{_≡_};
 ghost use Rattle.readings.specs.Meaning.{Reads, Shows};
-ghost use Rattle.readings.specs.Readings.{azimuthReading, courseReading, glideReading, mlsReading, valueReading, shownUnder, readingOf};
+ghost use Rattle.readings.specs.Readings.{azimuthReading, courseReading, glideReading, mlsReading, valueReading, shownUnder, readingOf, hasReading};
 
 // The reading of 222.
 fn azimuth_reading(count: AzimuthCount) -> Reading
@@ -79,5 +79,15 @@ pub fn reading_of(body: Body) -> Shown
     match views::view_of(body) {
         View::Value(status, value) => shown_under(status, value_reading(value)),
         View::Part(_, _) => Shown::Absent,
+    }
+}
+
+// Whether a body has a reading: a value, under a status that shows it.
+pub fn has_reading(body: Body) -> bool
+    ensures { λ r. ⌜ r ≡ hasReading (readingOf body) ⌝ }
+{
+    match views::view_of(body) {
+        View::Value(status, _) => views::is_shown(status),
+        View::Part(_, _) => false,
     }
 }

@@ -1,11 +1,8 @@
 // Whether a figure of a sheet agrees with the word just before it, and whether a word is refused.
 use decode::Decoded;
 use measurements::Measurement;
-use records::Body;
-use views::View;
 ghost use mathlib.Core.Bool.{cond};
 ghost use mathlib.Core.Path.{_≡_};
-ghost use Rattle.readings.specs.Readings.{hasReading, readingOf};
 ghost use Rattle.verdicts.specs.Verdicts.{measurementVerdict, verdictOf, isRefused};
 
 // The field just before a figure in its group: a word, or anything else or nothing.
@@ -19,16 +16,6 @@ pub enum Verdict {
     Agrees,
     Differs,
     Unmatched,
-}
-
-// Whether a body has a reading: a value, under a status that shows it.
-fn has_reading(body: Body) -> bool
-    ensures { λ r. ⌜ r ≡ hasReading (readingOf body) ⌝ }
-{
-    match views::view_of(body) {
-        View::Value(status, _) => views::is_shown(status),
-        View::Part(_, _) => false,
-    }
 }
 
 // The verdict on a figure that is compared with a word.
@@ -60,7 +47,7 @@ fn word_verdict(word: u32, label: u8, millionths: i64) -> Verdict
     match decoder::decode(word) {
         Decoded::Accepted(record) => {
             let body = record.body;
-            if (word_labels::label_of(word) == label as u32) & has_reading(body) {
+            if (word_labels::label_of(word) == label as u32) & record_readings::has_reading(body) {
                 return measurement_verdict(measurements::measurement_of(body), millionths);
             }
             Verdict::Unmatched

@@ -4,8 +4,8 @@ use mathlib.Core.Path.{sym, ap, _∙_}
 use borrow.Author.Needs.{needs}
 use Rattle.views.specs.declared.View.{View}
 use Rattle.readings.specs.Readings.{valueReading, hasReading, shownIn, shown-under}
-use Rattle.verdicts.proofs.has_reading.Statement.{statement}
-use Rattle.verdicts.proofs.has_reading.Tie as tie
+use Rattle.record_readings.proofs.has_reading.Statement.{statement}
+use Rattle.record_readings.proofs.has_reading.Tie as tie
 
 view-of-requires : tie.Need-view-of-requires
 view-of-requires c κs = search needs
