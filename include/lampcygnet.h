@@ -199,6 +199,32 @@ struct lampcygnet_millionths lampcygnet_print_count(uint32_t label, int64_t coun
  */
 bool lampcygnet_agrees(uint32_t word, int64_t millionths);
 
+/* What a figure has to do with a word, in the order in which it is looked for. */
+enum lampcygnet_reason {
+    LAMPCYGNET_REASON_NONE = 0,           /* beside a refusal */
+    LAMPCYGNET_REASON_AGREES = 1,         /* the figure agrees */
+    LAMPCYGNET_REASON_TENTH = 2,          /* a tenth of it agrees: a whole number of millionths, as the next two */
+    LAMPCYGNET_REASON_HUNDREDTH = 3,      /* a hundredth of it agrees */
+    LAMPCYGNET_REASON_THOUSANDTH = 4,     /* a thousandth of it agrees */
+    LAMPCYGNET_REASON_TEN_TIMES = 5,      /* ten times it agrees: a figure that 64 bits hold, as the next three */
+    LAMPCYGNET_REASON_HUNDRED_TIMES = 6,  /* a hundred times it agrees */
+    LAMPCYGNET_REASON_THOUSAND_TIMES = 7, /* a thousand times it agrees */
+    LAMPCYGNET_REASON_OTHER_SIGN = 8,     /* the figure with the other sign agrees */
+    LAMPCYGNET_REASON_NONE_OF_THESE = 9   /* none of these agrees */
+};
+
+/* A reason, or 0 beside a refusal. */
+struct lampcygnet_explained {
+    uint8_t refusal; /* enum lampcygnet_refusal */
+    uint8_t reason;  /* enum lampcygnet_reason */
+};
+
+/*
+ * Why a figure in millionths and a word disagree: the first reason that holds. Refused as decoding refuses the word, then 2 where it has no measured
+ * quantity, then 8 where it has no reading.
+ */
+struct lampcygnet_explained lampcygnet_explain(uint32_t word, int64_t millionths);
+
 /* ---- Reassembly of MLS auxiliary data (labels 140 to 143) ---- */
 
 /* What is held of a group. All 0 holds nothing: start so. */

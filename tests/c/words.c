@@ -1,6 +1,6 @@
 /*
  * The word part of the library, called from C and from C++: the layout of its structures, document 01's lines, and the files of test vectors that
- * are named on the command line, line by line: words*, joins*, and any other name for figures.
+ * are named on the command line, line by line: words*, joins*, explain*, and any other name for figures.
  */
 #include "expect.h"
 #include "lampcygnet.h"
@@ -25,6 +25,8 @@ static void test_layout(void)
     EXPECT(offsetof(struct lampcygnet_point, glide) == 16);
     EXPECT(sizeof(struct lampcygnet_millionths) == 16);
     EXPECT(offsetof(struct lampcygnet_millionths, millionths) == 8);
+    EXPECT(sizeof(struct lampcygnet_explained) == 2);
+    EXPECT(offsetof(struct lampcygnet_explained, reason) == 1);
     EXPECT(sizeof(struct lampcygnet_partial) == 16);
     EXPECT(offsetof(struct lampcygnet_partial, bits) == 8);
     EXPECT(sizeof(struct lampcygnet_step) == 32);
@@ -312,6 +314,47 @@ static void test_figures(void)
     }
 }
 
+/* The reason that a figure has beside a word that is not refused, or 0. */
+static int reason(uint32_t word, int64_t millionths)
+{
+    struct lampcygnet_explained e = lampcygnet_explain(word, millionths);
+    EXPECT(e.refusal == LAMPCYGNET_ACCEPTED ? 1 <= e.reason && e.reason <= 9 : e.reason == LAMPCYGNET_REASON_NONE);
+    return e.reason;
+}
+
+static void test_explaining(void)
+{
+    const uint32_t course = UINT32_C(0x640000DE); /* it says 0.1 */
+    const uint32_t west = lampcygnet_code_figure(0222, 0, -351562).word;
+    const uint32_t zero = lampcygnet_code_figure(0152, 2, 0).word;
+    EXPECT(reason(course, 100000) == LAMPCYGNET_REASON_AGREES);
+    EXPECT(reason(course, 1000000) == LAMPCYGNET_REASON_TENTH); /* typed as 1.0 */
+    EXPECT(reason(course, 10000000) == LAMPCYGNET_REASON_HUNDREDTH);
+    EXPECT(reason(course, 100000000) == LAMPCYGNET_REASON_THOUSANDTH);
+    EXPECT(reason(course, 10000) == LAMPCYGNET_REASON_TEN_TIMES);
+    EXPECT(reason(course, 1000) == LAMPCYGNET_REASON_HUNDRED_TIMES);
+    EXPECT(reason(course, 100) == LAMPCYGNET_REASON_THOUSAND_TIMES);
+    EXPECT(reason(course, -100000) == LAMPCYGNET_REASON_OTHER_SIGN);
+    EXPECT(reason(course, 200000) == LAMPCYGNET_REASON_NONE_OF_THESE);
+    EXPECT(reason(course, INT64_MAX) == LAMPCYGNET_REASON_NONE_OF_THESE && reason(course, INT64_MIN) == LAMPCYGNET_REASON_NONE_OF_THESE);
+    /* ten does not divide it */
+    EXPECT(reason(course, 1000001) == LAMPCYGNET_REASON_NONE_OF_THESE);
+    /* times ten it is 2^64 + 4: a product that wrapped would be 4 */
+    EXPECT(reason(zero, INT64_C(1844674407370955162)) == LAMPCYGNET_REASON_NONE_OF_THESE);
+    EXPECT(reason(zero, INT64_MIN) == LAMPCYGNET_REASON_NONE_OF_THESE);
+    /* a thousand times it agrees, and so does the other sign: the first is told */
+    EXPECT(lampcygnet_agrees(west, 359640000) && lampcygnet_agrees(west, -359640));
+    EXPECT(reason(west, 359640) == LAMPCYGNET_REASON_THOUSAND_TIMES);
+    EXPECT(reason(zero, 0) == LAMPCYGNET_REASON_AGREES);
+    /* under test, not under nodata; 2 before 8 */
+    EXPECT(reason(UINT32_C(0xC40000DE), 1000000) == LAMPCYGNET_REASON_TENTH);
+    EXPECT(lampcygnet_explain(UINT32_C(0xA40000DE), 100000).refusal == LAMPCYGNET_REFUSED_REACH && reason(UINT32_C(0xA40000DE), 100000) == 0);
+    EXPECT(lampcygnet_explain(UINT32_C(0x040000DE), 100000).refusal == LAMPCYGNET_REFUSED_REACH && reason(UINT32_C(0x040000DE), 100000) == 0);
+    EXPECT(lampcygnet_explain(UINT32_C(0x04C80038), 113200000).refusal == LAMPCYGNET_REFUSED_LABEL && reason(UINT32_C(0x04C80038), 0) == 0);
+    EXPECT(lampcygnet_explain(UINT32_C(0xA4C80038), 113200000).refusal == LAMPCYGNET_REFUSED_LABEL);
+    EXPECT(lampcygnet_explain(UINT32_C(0xE8000048), 90000000).refusal == LAMPCYGNET_REFUSED_PARITY && reason(UINT32_C(0xE8000048), 0) == 0);
+}
+
 static void test_reassembly(void)
 {
     static const uint32_t words[4] = {UINT32_C(0x1FFC0306), UINT32_C(0xBFFFE386), UINT32_C(0xD09F2346), UINT32_C(0x724B07C6)};
@@ -375,6 +418,24 @@ static void figure_line(const char *text, long line)
     expect(w.word == (refusal == 0 ? strtoul(answer, NULL, 16) : 0), "word", line);
 }
 
+/* A word in hexadecimal, a figure, and the short name of the reason, or `refused` and its number. */
+static void explain_line(const char *text, long line)
+{
+    static const char *const names[9] = {"agrees", "tenth", "hundredth", "thousandth", "ten", "hundred", "thousand", "sign", "none"};
+    unsigned long word;
+    long long figure;
+    char answer[16];
+    unsigned refusal = 0;
+    struct lampcygnet_explained e;
+    if (sscanf(text, "%lx %lld %15s %u", &word, &figure, answer, &refusal) < 3) {
+        expect(0, "a line that cannot be read", line);
+        return;
+    }
+    e = lampcygnet_explain((uint32_t)word, figure);
+    expect(e.refusal == refusal && (refusal == 0) == (strcmp(answer, "refused") != 0), "refusal", line);
+    expect(refusal != 0 ? e.reason == 0 : 1 <= e.reason && e.reason <= 9 && strcmp(names[e.reason - 1], answer) == 0, "reason", line);
+}
+
 /* A word in hexadecimal, and `begun C` with the parts held, `joined C` with the bits and the mark, or `refused` and its number. */
 static void join_line(struct lampcygnet_partial *held, const char *text, long line)
 {
@@ -417,6 +478,8 @@ static void run_file(const char *path)
             word_line(text, line);
         } else if (strncmp(name, "joins", 5) == 0) {
             join_line(&held, text, line);
+        } else if (strncmp(name, "explain", 7) == 0) {
+            explain_line(text, line);
         } else {
             figure_line(text, line);
         }
@@ -434,6 +497,7 @@ int main(int argc, char **argv)
     test_flags();
     test_readings();
     test_figures();
+    test_explaining();
     test_reassembly();
     for (i = 1; i < argc; i++) {
         run_file(argv[i]);

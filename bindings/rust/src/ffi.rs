@@ -54,6 +54,13 @@ pub struct Millionths {
 }
 
 #[repr(C)]
+#[derive(Clone, Copy)]
+pub struct Explained {
+    pub refusal: u8,
+    pub reason: u8,
+}
+
+#[repr(C)]
 #[derive(Clone, Copy, Debug, Default, PartialEq, Eq)]
 pub struct Partial {
     pub parts: u8,
@@ -136,6 +143,7 @@ extern "C" {
     pub fn lampcygnet_code_figure(label: u32, source: u32, millionths: i64) -> Word;
     pub fn lampcygnet_print_count(label: u32, count: i64) -> Millionths;
     pub fn lampcygnet_agrees(word: u32, millionths: i64) -> bool;
+    pub fn lampcygnet_explain(word: u32, millionths: i64) -> Explained;
     pub fn lampcygnet_reassemble(held: Partial, word: u32) -> Step;
     pub fn lampcygnet_check_sheet(sheet: *const u8, length: usize) -> Place;
     pub fn lampcygnet_walk_from_start(sheet: *const u8, length: usize) -> Walk;

@@ -6,14 +6,16 @@
 //! gives its numbers Rust's types. Build the library first: `make library` at the root of the repository.
 //!
 //! ```
-//! use lampcygnet::{agrees, decode, Refusal};
+//! use lampcygnet::{agrees, decode, explain, Refusal};
 //!
 //! let record = decode(0x640000DE)?;
 //! assert_eq!(record.to_string(), "173 0 ready 0.100000");
 //! assert!(!agrees(0x640000DE, 1_000_000)); // the figure beside it says 1.0
+//! assert_eq!(explain(0x640000DE, 1_000_000)?.to_string(), "a tenth agrees");
 //! # Ok::<(), Refusal>(())
 //! ```
 
+mod explain;
 mod ffi;
 mod figure;
 mod group;
@@ -22,6 +24,7 @@ mod record;
 mod refusal;
 pub mod sheet;
 
+pub use explain::{explain, Reason};
 pub use figure::{agrees, code_figure, print_count};
 pub use group::{Group, Reassembler};
 pub use reading::{chart_point, reading, ChartPoint, Reading, Shown};

@@ -3,7 +3,7 @@
 mod library;
 
 use lampcygnet::sheet::{Builder, Content, Sheet, SheetRefusal};
-use lampcygnet::{Reassembler, Refusal};
+use lampcygnet::{Reason, Reassembler, Refusal};
 use library::Library;
 use model::compare;
 use model::figure::QUANTITIES;
@@ -69,6 +69,40 @@ fn random_figures() {
     for _ in 0..2_500_000 {
         let (label, source, millionths) = generate::any_figure(&mut random);
         compare::figure(&Library, label, source, millionths).unwrap();
+    }
+}
+
+/// Every legal count of each quantity beside the slips of its printed figure, under every status, and beside the ends of 64 bits;
+/// and figures for which two reasons hold.
+#[test]
+fn explanations_of_every_count() {
+    compare::double_explanations(&Library).unwrap();
+    thread::scope(|scope| {
+        for half in QUANTITIES.chunks(4) {
+            scope.spawn(move || {
+                for quantity in half {
+                    compare::explanations(&Library, quantity).unwrap();
+                }
+            });
+        }
+    });
+}
+
+/// Slips of figures that agree, figures of every size and at the ends of 64 bits, beside words of every sort, refused ones and those
+/// of other labels among them: 200,000.
+#[test]
+fn random_explanations() {
+    let mut random = Random::from_environment("explanations", 11);
+    for _ in 0..10_000 {
+        compare::random_explanations(&Library, &mut random).unwrap();
+    }
+}
+
+/// A reason is shown as the program tells it.
+#[test]
+fn reasons_are_shown_as_told() {
+    for (number, text) in (1..).zip(model::explain::REASONS) {
+        assert_eq!(Reason::from_number(number).unwrap().to_string(), text);
     }
 }
 

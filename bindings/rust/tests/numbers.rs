@@ -258,6 +258,19 @@ fn figures_of_any_numbers() {
     }
 }
 
+/// Beside a refusal the reason is 0, and beside none it is 1 to 9.
+#[test]
+fn explained_numbers() {
+    let mut random = Random::from_environment("explained numbers", 31);
+    for _ in 0..100_000 {
+        let (word, millionths) = generate::any_explained(&mut random);
+        // The function takes any numbers and writes to no memory.
+        let told = unsafe { ffi::lampcygnet_explain(word, millionths) };
+        let expected = model::explain(word, millionths).map_or_else(|refusal| (refusal, 0), |reason| (0, reason));
+        assert_eq!((told.refusal, told.reason), expected, "explain {word:08X} {millionths}");
+    }
+}
+
 /// Reassembly from any numbers as what is held.
 #[test]
 fn parts_from_any_state() {

@@ -1,6 +1,7 @@
 // The functions that other languages call: those of the header include/lampcygnet.h. Each takes any numbers, ends, and promises one answer.
 use flat_contents::FlatFigure;
 use flat_contents::FlatNote;
+use flat_explanations::FlatExplained;
 use flat_figures::FlatMillionths;
 use flat_listing::FlatListed;
 use flat_places::FlatPlace;
@@ -16,6 +17,7 @@ ghost use mathlib.Core.Path.{_≡_};
 ghost use Rattle.decode.specs.Decode.{decodeOf};
 ghost use Rattle.chart.specs.Words.{chartPoint};
 ghost use Rattle.agreements.specs.Agreement.{agreesOf};
+ghost use Rattle.explanations.specs.Explanations.{explainedOf};
 ghost use Rattle.figures.specs.Coding.{codedOf};
 ghost use Rattle.fields.specs.declared.FieldKind.{FieldKind};
 ghost use Rattle.fields.specs.Run.{sheetOf};
@@ -26,6 +28,7 @@ ghost use Rattle.contents.specs.Contents.{wordBytes, figureBytes, wordIn, figur
 ghost use Rattle.writer.specs.Write.{writeOf, groupOf};
 ghost use Rattle.listing.specs.Listing.{textOf, listedOf, bufferOf};
 ghost use Rattle.flat_contents.specs.Contents.{flatWordIn, flatFigureIn, flatNote};
+ghost use Rattle.flat_explanations.specs.Explained.{flatExplained};
 ghost use Rattle.flat_figures.specs.Printing.{printedOf};
 ghost use Rattle.flat_reassembly.specs.Steps.{reassembled};
 ghost use Rattle.flat_listing.specs.Listed.{flatListed};
@@ -90,6 +93,14 @@ pub extern "C" fn lampcygnet_agrees(word: u32, millionths: i64) -> bool
     ensures { λ r. ⌜ r ≡ agreesOf word millionths ⌝ }
 {
     agreements::agrees(word, millionths)
+}
+
+// Why a figure in millionths and a word agree or do not, or its refusal.
+#[no_mangle]
+pub extern "C" fn lampcygnet_explain(word: u32, millionths: i64) -> FlatExplained
+    ensures { λ r. ⌜ r ≡ flatExplained (explainedOf word millionths) ⌝ }
+{
+    flat_explanations::explain_flat(word, millionths)
 }
 
 // Takes one word of group C into what is held of a group.

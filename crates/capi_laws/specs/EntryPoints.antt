@@ -23,6 +23,12 @@ use Rattle.encode.specs.declared.Encoded.{Encoded}
 use Rattle.readings.specs.Readings.{readingOf}
 use Rattle.readings.specs.declared.Reading.{Reading}
 use Rattle.readings.specs.declared.Shown.{Shown}
+use Rattle.reasons.specs.Reasons.{numberOf as reasonNumber}
+use Rattle.reasons.specs.declared.Reason.{Reason}
+use Rattle.explanations.specs.Explanations.{explainedOf}
+use Rattle.explanations.specs.declared.Explained.{Explained}
+use Rattle.flat_explanations.specs.Explained.{flatExplained, reason-tells}
+use Rattle.flat_explanations.specs.declared.FlatExplained.{FlatExplained}
 use Rattle.chart.specs.Words.{chartPoint}
 use Rattle.chart.specs.declared.Charted.{Charted}
 use Rattle.quantities.specs.Nearest.{millionthsOf}
@@ -108,6 +114,10 @@ abbrev pub ofCharted : Charted → Said
 ofCharted (Charted.Point p) = accepts
 ofCharted (Charted.Refused f) = refuses f 0
 
+abbrev pub ofExplained : Explained → Said
+ofExplained (Explained.Because r) = accepts
+ofExplained (Explained.Refused f) = refuses f 0
+
 -- a count is printed: 2 where the label measures nothing, 6 where its bits do not hold the count
 abbrev pub ofCount : Measured → ℤ → Said
 ofCount (Measured.As q) c = cond (holds q c) accepts (refuses Refusal.Value 0)
@@ -179,6 +189,9 @@ NoteTells = Tells (λ (n : FlatNote). n .refusal) (λ f p. record { refusal = nu
 abbrev pub FigureTells : Said → FlatFigure → Type 0
 FigureTells = Tells (λ (n : FlatFigure). n .refusal) (λ f p. record { refusal = numberOf f; label = 0; millionths = pos 0 })
 
+abbrev pub ReasonTells : Said → FlatExplained → Type 0
+ReasonTells = Tells (λ (n : FlatExplained). n .refusal) (λ f p. record { refusal = numberOf f; reason = 0 })
+
 abbrev pub LengthTells : Said → FlatListed → Type 0
 LengthTells = Tells (λ (n : FlatListed). n .refusal) (λ f p. record { refusal = numberOf f; length = 0 })
 
@@ -196,6 +209,9 @@ pub record EntryPoints : Type 0 where
   -- lampcygnet_code_figure, lampcygnet_print_count; lampcygnet_agrees refuses nothing, and its contract says all
   pub figure : (label source : ℕ) (millionths : ℤ) → WordTells (ofEncoded (codedOf label source millionths)) (flatWord (codedOf label source millionths))
   pub count : (label : ℕ) (c : ℤ) → MillionthsTell (ofCount (quantityAt document01 label) c) (printedOf label c)
+  -- lampcygnet_explain: the reason's number beside 0, or 0 beside the refusal's
+  pub explained : (w : ℕ) (millionths : ℤ) → ReasonTells (ofExplained (explainedOf w millionths)) (flatExplained (explainedOf w millionths))
+  pub reason : (w : ℕ) (millionths : ℤ) (r : Reason) → (explainedOf w millionths ≡ Explained.Because r) ↔ (flatExplained (explainedOf w millionths) .reason ≡ reasonNumber r)
   -- lampcygnet_reassemble
   pub part : (held : Partial) (w : ℕ) → StepTells (partialOf (takeWord (heldBy held) w .next .«group_c»)) (ofAnswer (takeWord (heldBy held) w .answer)) (reassembled held w)
   -- lampcygnet_check_sheet, lampcygnet_walk_from_start, and lampcygnet_next_field after any number of steps from there
@@ -293,6 +309,10 @@ count-tells (Measured.As q) c = by (holds q c)
     by true = when-accepted _ _ (λ f p. refl) (record { refusal = 0; millionths = millionthsOf q c }) refl
     by false = when-refused _ _ (λ f p. refl) Refusal.Value 0
 
+explained-tells : (x : Explained) → ReasonTells (ofExplained x) (flatExplained x)
+explained-tells (Explained.Because r) = when-accepted _ _ (λ f p. refl) (flatExplained (Explained.Because r)) refl
+explained-tells (Explained.Refused f) = when-refused _ _ (λ f p. refl) f 0
+
 step-tells : (next : Partial) (a : WordAnswer) → StepTells next (ofAnswer a) (stepWith next (answered a))
 step-tells next WordAnswer.Incomplete = when-accepted _ _ (λ f p. refl) (stepWith next (answered WordAnswer.Incomplete)) refl
 step-tells next (WordAnswer.Complete g) = when-accepted _ _ (λ f p. refl) (stepWith next (answered (WordAnswer.Complete g))) refl
@@ -366,6 +386,8 @@ entry-points = record {
   chart = λ course glide. point-tells (chartPoint course glide);
   figure = λ label source z. word-tells (codedOf label source z);
   count = λ label c. count-tells (quantityAt document01 label) c;
+  explained = λ w z. explained-tells (explainedOf w z);
+  reason = λ w z r. reason-tells (explainedOf w z) r;
   part = λ held w. step-tells (partialOf (takeWord (heldBy held) w .next .«group_c»)) (takeWord (heldBy held) w .answer);
   sheet = λ s. check-tells (sheetOf s);
   walk = λ s. walk-tells (sheetOf s);

@@ -1,7 +1,7 @@
 //! The library as the model's subject: its records and refusals in the model's numbers.
 
 use lampcygnet::sheet::{self, Content, Sheet, SheetRefusal};
-use lampcygnet::{Body, Category, Marker, Reading, Record, Refusal, Shown, Status};
+use lampcygnet::{Body, Category, Marker, Reading, Reason, Record, Refusal, Shown, Status};
 use model::compare::Subject;
 use model::reading::Value;
 use model::sheet::{FIGURE, GROUP, NOTE, WORD};
@@ -325,6 +325,11 @@ impl Subject for Library {
     }
     fn agrees(&self, word: u32, millionths: i64) -> bool {
         lampcygnet::agrees(word, millionths)
+    }
+    fn explain(&self, word: u32, millionths: i64) -> Result<u8, u8> {
+        lampcygnet::explain(word, millionths)
+            .map(Reason::number)
+            .map_err(Refusal::number)
     }
     fn chart_point(&self, course: u32, glide: u32) -> Result<(f64, f64), u8> {
         lampcygnet::chart_point(course, glide)
