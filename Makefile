@@ -33,10 +33,11 @@ check:
 	rt check
 	@$(MAKE) --no-print-directory test-model test-c test-rust test-programs test-install
 
-# The programs that are installed: target/bin/list and target/bin/list_fields.
+# The programs that are installed: target/bin/list, target/bin/list_fields and target/bin/explain.
 programs:
 	rt check list
 	rt check list_fields
+	rt check explain
 
 # The static library that include/lampcygnet.h describes: target/staticlib/libcapi.a.
 library:
@@ -44,14 +45,14 @@ library:
 
 # The C tests, as C99 and as C++11, on the test vectors.
 test-c: library
-	tests/c/run words crates/test_words/data/words.txt crates/test_figures/data/figures.txt crates/test_reassembly/data/joins.txt
+	tests/c/run words crates/test_words/data/words.txt crates/test_figures/data/figures.txt crates/test_reassembly/data/joins.txt crates/test_explain/data/explain.txt
 	tests/c/run sheets crates/test_sheets/data/*/*.bin
 
 # The independent model on the test vectors and on document 01's lines.
 test-model:
 	cd bindings/model && cargo test --offline --quiet
 
-# The Rust crate: its examples, and the library beside the model on all words of every label, on figures, on runs of parts and on sheets.
+# The Rust crate: its examples, and the library beside the model on all words of every label, on figures and their explanations, on runs of parts and on sheets.
 test-rust: library
 	cd bindings/rust && cargo test --offline --quiet
 
@@ -73,11 +74,13 @@ install-files:
 		"$(DESTDIR)$(PREFIX)/share/man/man1" "$(DESTDIR)$(PREFIX)/share/man/man3" "$(DESTDIR)$(PREFIX)/share/man/man5"
 	install -m 755 target/bin/list "$(DESTDIR)$(PREFIX)/bin/lampcygnet-list"
 	install -m 755 target/bin/list_fields "$(DESTDIR)$(PREFIX)/bin/lampcygnet-fields"
+	install -m 755 target/bin/explain "$(DESTDIR)$(PREFIX)/bin/lampcygnet-explain"
 	install -m 644 include/lampcygnet.h "$(DESTDIR)$(PREFIX)/include/lampcygnet.h"
 	install -m 644 target/staticlib/libcapi.a "$(DESTDIR)$(PREFIX)/lib/liblampcygnet.a"
 	$(call filled,lampcygnet.pc.in,lib/pkgconfig/lampcygnet.pc)
 	$(call filled,man/lampcygnet-list.1,share/man/man1/lampcygnet-list.1)
 	$(call filled,man/lampcygnet-fields.1,share/man/man1/lampcygnet-fields.1)
+	$(call filled,man/lampcygnet-explain.1,share/man/man1/lampcygnet-explain.1)
 	$(call filled,man/lampcygnet.3,share/man/man3/lampcygnet.3)
 	$(call filled,man/lampcygnet-sheet.5,share/man/man5/lampcygnet-sheet.5)
 
@@ -86,10 +89,10 @@ filled = sed -e 's|@PREFIX@|$(PREFIX)|' -e 's|@VERSION@|$(VERSION)|' $(1) > "$(D
 
 # Takes away the files that `install` puts there.
 uninstall:
-	for file in bin/lampcygnet-list bin/lampcygnet-fields include/lampcygnet.h lib/liblampcygnet.a lib/pkgconfig/lampcygnet.pc \
-		share/man/man1/lampcygnet-list.1 share/man/man1/lampcygnet-fields.1 share/man/man3/lampcygnet.3 share/man/man5/lampcygnet-sheet.5; do rm -f "$(DESTDIR)$(PREFIX)/$$file"; done
+	for file in bin/lampcygnet-list bin/lampcygnet-fields bin/lampcygnet-explain include/lampcygnet.h lib/liblampcygnet.a lib/pkgconfig/lampcygnet.pc \
+		share/man/man1/lampcygnet-list.1 share/man/man1/lampcygnet-fields.1 share/man/man1/lampcygnet-explain.1 share/man/man3/lampcygnet.3 share/man/man5/lampcygnet-sheet.5; do rm -f "$(DESTDIR)$(PREFIX)/$$file"; done
 
-# The programs where an input cannot be read, an output cannot be written, an argument is given or a sheet is too long.
+# The programs where an input cannot be read, an output cannot be written, an argument is given or a sheet is too long; and beside the model, on sheets and on typed lines.
 test-programs: programs
 	tests/programs/run
 

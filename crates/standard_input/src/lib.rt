@@ -1,7 +1,6 @@
-// Standard input, read to its end into a buffer. A read that fails is not taken for the end.
+// Standard input, read to its end or piece by piece into a buffer. A read that fails is not taken for the end.
 use libc::EINTR;
 use libc::STDIN_FILENO;
-ghost use Prim.Native.Nat.{_≤_};
 ghost use lib.ListN.{length};
 ghost use Rattle.standard_input.specs.Input.{Holds, Adds};
 
@@ -14,7 +13,7 @@ pub enum Input {
 }
 
 // What one read gives.
-enum Chunk {
+pub enum Chunk {
     // As many bytes.
     Bytes(usize),
     // The input's end.
@@ -25,8 +24,8 @@ enum Chunk {
     Failed,
 }
 
-// One read into a buffer, which has room.
-fn read_chunk(buffer: &mut [u8]) -> Chunk
+// One read into a buffer. Without room there is the input's end.
+pub fn read_chunk(buffer: &mut [u8]) -> Chunk
     ensures { λ r. ⌜ Adds r (length (now (buffer .entry))) ⌝ }
 {
     let got = libc::read(STDIN_FILENO, buffer);

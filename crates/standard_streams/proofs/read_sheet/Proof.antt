@@ -8,6 +8,9 @@ use Rattle.standard_streams.proofs.read_sheet.Tie as tie
 arg-count-requires : tie.Need-arg-count-requires
 arg-count-requires c κs = search needs
 
+slice-aggregate-say-usage : tie.Need-slice-aggregate-say-usage
+slice-aggregate-say-usage c = search needs
+
 say-usage-requires : tie.Need-say-usage-requires
 say-usage-requires c κs = search needs
 
@@ -23,11 +26,8 @@ enum-known-length c = search needs
 enum-told : tie.Need-enum-told
 enum-told c = search needs
 
-slice-aggregate-say : tie.Need-slice-aggregate-say
-slice-aggregate-say c = search needs
-
-say-requires : tie.Need-say-requires
-say-requires c κs = search needs
+say-unread-requires : tie.Need-say-unread-requires
+say-unread-requires c κs = search needs
 
 returns-2 : tie.Need-returns-2
 returns-2 c =
@@ -42,12 +42,12 @@ read-sheet-spec =
     tie.close
     (tie.spec
     arg-count-requires
+    slice-aggregate-say-usage
     say-usage-requires
     returns
     read-all-requires
     enum-known-length
     enum-told
-    slice-aggregate-say
-    say-requires
+    say-unread-requires
     returns-2
     returns-3)
