@@ -24,6 +24,8 @@ struct baseline_record {
 /* Each gives 0 or the refusal number; after a refusal nothing but an offset is written. */
 int baseline_decode(uint32_t word, struct baseline_record *record);
 int baseline_code(uint8_t label, uint8_t source, int64_t millionths, uint32_t *word);
+/* The reason is 1 to 9. */
+int baseline_explain(uint32_t word, int64_t millionths, uint8_t *reason);
 /* The offset is 0 for a legal sheet. */
 int baseline_check(const uint8_t *sheet, size_t length, size_t *offset);
 /* 13 if the text is longer than the room. A refused sheet has its line as text, and the answer is 0. */

@@ -19,6 +19,7 @@ pub const TEXT_MAX: usize = 117_046;
 extern "C" {
     fn baseline_decode(word: u32, record: *mut Record) -> i32;
     fn baseline_code(label: u8, source: u8, millionths: i64, word: *mut u32) -> i32;
+    fn baseline_explain(word: u32, millionths: i64, reason: *mut u8) -> i32;
     fn baseline_check(sheet: *const u8, length: usize, offset: *mut usize) -> i32;
     fn baseline_list(sheet: *const u8, length: usize, text: *mut u8, room: usize, used: *mut usize) -> i32;
     fn baseline_decode_page(words: *const u32, length: usize, records: *mut Record, answers: *mut u8);
@@ -42,6 +43,16 @@ pub fn code(label: u8, source: u8, millionths: i64) -> Result<u32, u8> {
     // SAFETY: one number is written.
     match unsafe { baseline_code(label, source, millionths, &mut word) } {
         0 => Ok(word),
+        refusal => Err(refusal as u8),
+    }
+}
+
+#[inline]
+pub fn explain(word: u32, millionths: i64) -> Result<u8, u8> {
+    let mut reason = 0;
+    // SAFETY: one number is written.
+    match unsafe { baseline_explain(word, millionths, &mut reason) } {
+        0 => Ok(reason),
         refusal => Err(refusal as u8),
     }
 }

@@ -1,4 +1,4 @@
-//! What is timed: words, figures and sheets as the archive has them, the same in every run.
+//! What is timed: words, figures, both side by side and sheets as the archive has them, the same in every run.
 
 /// The splitmix64 generator.
 pub struct Random(u64);
@@ -73,6 +73,56 @@ fn noted(word: u32) -> Option<(u8, i64)> {
         _ => return None,
     };
     Some(((word as u8).reverse_bits(), (value * 1e6).round() as i64))
+}
+
+/// The low bytes of the five measured labels in a word.
+const MEASURED: [u32; 5] = [0x49, 0xDE, 0x3E, 0x96, 0x56];
+
+/// A ready word of a measured label, with any source and any count.
+fn ready_word(random: &mut Random, label: u32) -> u32 {
+    let source_and_count = if matches!(label, 0x96 | 0x56) { 0x1FFF_E300 } else { 0x1FFF_0300 };
+    with_parity(3 << 29 | random.draw() as u32 & source_and_count | label)
+}
+
+/// A word that is refused where a ready word stood: it with another bit, it without data, or a selected glide angle.
+fn refused_word(random: &mut Random, word: u32) -> u32 {
+    match random.below(3) {
+        0 => word ^ 1 << random.below(32),
+        1 => with_parity(word & !(1 << 30)),
+        _ => with_parity(word & 0x6FF8_0300 | 0xB6),
+    }
+}
+
+/// Measured words and what a transcriber typed beside them: the figure as it was noted, times or over 10, 100 or 1000, with the
+/// other sign, or that of another word. The five labels and the nine reasons are equally frequent; one word in fifty is refused.
+pub fn explanations(random: &mut Random, length: usize) -> Vec<(u32, i64)> {
+    let mut explanations = Vec::with_capacity(length);
+    while explanations.len() < length {
+        let label = MEASURED[random.below(5) as usize];
+        let reason = 1 + random.below(9) as u8;
+        // An ILS deviation over 1000 has mostly lost its count, and 0 has only the first reason: then another word is drawn.
+        let (word, millionths) = loop {
+            let [word, other] = [(); 2].map(|()| ready_word(random, label));
+            let [figure, another] = [word, other].map(|word| noted(word).map_or(0, |(_, millionths)| millionths));
+            let typed = match reason {
+                1 => figure,
+                2 => figure * 10,
+                3 => figure * 100,
+                4 => figure * 1000,
+                5 => figure / 10,
+                6 => figure / 100,
+                7 => figure / 1000,
+                8 => -figure,
+                _ => another,
+            };
+            if crate::rust::explain(word, typed) == Ok(reason) {
+                break (word, typed);
+            }
+        };
+        let word = if random.below(50) == 0 { refused_word(random, word) } else { word };
+        explanations.push((word, millionths));
+    }
+    explanations
 }
 
 fn field(tag: u8, content: &[u8]) -> Vec<u8> {

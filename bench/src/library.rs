@@ -32,6 +32,16 @@ pub fn code(label: u8, source: u8, millionths: i64) -> Result<u32, u8> {
     }
 }
 
+#[inline]
+pub fn explain(word: u32, millionths: i64) -> Result<u8, u8> {
+    // SAFETY: the function takes any numbers and writes to no memory.
+    let explained = unsafe { ffi::lampcygnet_explain(word, millionths) };
+    match explained.refusal {
+        0 => Ok(explained.reason),
+        refusal => Err(refusal),
+    }
+}
+
 pub fn check(sheet: &[u8]) -> Result<(), (u8, usize)> {
     // SAFETY: pointer and length are those of the slice.
     let checked = unsafe { ffi::lampcygnet_check_sheet(sheet.as_ptr(), sheet.len()) };

@@ -1,22 +1,24 @@
-//! Times the library beside plain C and Rust and prints a table: nanoseconds for a word, a figure or a sheet's byte, each the
-//! best of several runs in which all take turns, and the library's time divided by C's.
+//! Times the library beside plain C and Rust and prints a table: nanoseconds for a word, a figure, an explanation or a sheet's
+//! byte, each the best of several runs in which all take turns, and the library's time divided by C's.
 
 use bench::{c, input, library, rust};
 use lampcygnet::sheet::{self, Sheet};
 use std::hint::black_box;
 use std::time::Instant;
 
-/// How often each is timed, and over how many words, figures or bytes each time.
+/// How often each is timed, and over how many words, figures, explanations or bytes each time.
 const RUNS: usize = 15;
 const ITEMS: usize = 1_000_000;
 
 type Figure = (u8, u8, i64);
+type Explained = (u32, i64);
 
 /// Who is timed. Each function gives a number made of its answers.
 struct Contestant {
     name: &'static str,
     decode: fn(&[u32]) -> u64,
     code: fn(&[Figure]) -> u64,
+    explain: fn(&[Explained]) -> u64,
     check: fn(&[u8]) -> u64,
     list: fn(&[u8], &mut Texts) -> u64,
 }
@@ -32,6 +34,7 @@ const CONTESTANTS: [Contestant; 4] = [
         name: "library",
         decode: |words| decode_all(words, |word| library::decode(word).map(|record| record.source)),
         code: |figures| code_all(figures, library::code),
+        explain: |explained| explain_all(explained, library::explain),
         check: |sheet| checked(library::check(sheet)),
         list: |sheet, texts| listed(library::list(sheet, &mut texts.fixed)),
     },
@@ -39,6 +42,7 @@ const CONTESTANTS: [Contestant; 4] = [
         name: "C",
         decode: |words| decode_all(words, |word| c::decode(word).map(|record| record.source)),
         code: |figures| code_all(figures, c::code),
+        explain: |explained| explain_all(explained, c::explain),
         check: |sheet| checked(c::check(sheet)),
         list: |sheet, texts| listed(c::list(sheet, &mut texts.fixed)),
     },
@@ -50,6 +54,7 @@ const CONTESTANTS: [Contestant; 4] = [
             decode_all(words, |word| decode(word).map(|record| record.source))
         },
         code: |figures| code_all(figures, black_box(rust::code as fn(u8, u8, i64) -> Result<u32, u8>)),
+        explain: |explained| explain_all(explained, black_box(rust::explain as fn(u32, i64) -> Result<u8, u8>)),
         check: |sheet| checked(rust::check(sheet)),
         list: |sheet, texts| {
             texts.grown.clear();
@@ -70,6 +75,12 @@ const CONTESTANTS: [Contestant; 4] = [
                 lampcygnet::code_figure(label, source, millionths).map_err(|refusal| refusal.number())
             })
         },
+        explain: |explained| {
+            explain_all(explained, |word, millionths| match lampcygnet::explain(word, millionths) {
+                Ok(reason) => Ok(reason.number()),
+                Err(refusal) => Err(refusal.number()),
+            })
+        },
         check: |sheet| checked(Sheet::new(sheet).map(|_| ()).map_err(|r| (r.refusal.number(), r.offset))),
         list: |sheet, texts| listed(sheet::list_into(sheet, &mut texts.fixed).map_err(|refusal| refusal.number())),
     },
@@ -84,6 +95,12 @@ fn decode_all(words: &[u32], decode: impl Fn(u32) -> Result<u8, u8>) -> u64 {
 #[inline(always)]
 fn code_all(figures: &[Figure], code: impl Fn(u8, u8, i64) -> Result<u32, u8>) -> u64 {
     figures.iter().map(|&(label, source, m)| code(label, source, m).map_or_else(u64::from, u64::from)).sum()
+}
+
+/// The number of an answer: that of a refusal, or of the reason.
+#[inline(always)]
+fn explain_all(explained: &[Explained], explain: impl Fn(u32, i64) -> Result<u8, u8>) -> u64 {
+    explained.iter().map(|&(word, m)| explain(word, m).map_or_else(|refusal| 16 * u64::from(refusal), u64::from)).sum()
 }
 
 fn checked(answer: Result<(), (u8, usize)>) -> u64 {
@@ -122,7 +139,7 @@ fn row(name: &str, times: [f64; CONTESTANTS.len()]) {
     println!("| {name} | {} | {:.2} |", shown.join(" | "), times[0] / times[1]);
 }
 
-/// Rows for calls that are made over runs of 1,000 to 1,000,000 words or figures.
+/// Rows for calls that are made over runs of 1,000 to 1,000,000 words, figures or explanations.
 fn rows_by_length<T>(name: &str, items: &[T], work: fn(&Contestant, &[T]) -> u64) {
     for length in [1_000, 10_000, 100_000, 1_000_000] {
         let runs: Vec<&[T]> = items.chunks_exact(length).collect();
@@ -162,12 +179,15 @@ fn main() {
         .iter()
         .map(|kib| (0..ITEMS / 1024 / kib).map(|_| input::sheet(&mut random, &received, kib * 1024)).collect())
         .collect();
+    let explained = input::explanations(&mut random, ITEMS);
 
     heading("A word to its record, ns a word:");
     rows_by_length("words of any bits", &any, |who, words| (who.decode)(words));
     rows_by_length("words of a receiver", &received, |who, words| (who.decode)(words));
     heading("A figure to its word, ns a figure:");
     rows_by_length("figures", &figures, |who, figures| (who.code)(figures));
+    heading("Why a figure and a word disagree, ns an explanation:");
+    rows_by_length("explanations", &explained, |who, explained| (who.explain)(explained));
     heading("The check of a sheet, ns a byte:");
     rows_by_size(&sheets, |who, sheet| (who.check)(sheet));
     let full = sheets.last().map(|sheets| described(&sheets[0], &mut texts)).unwrap_or_default();

@@ -44,6 +44,9 @@ impl Subject for C {
     fn code(&self, label: u8, source: u8, millionths: i64) -> Result<u32, u8> {
         c::code(label, source, millionths)
     }
+    fn explain(&self, word: u32, millionths: i64) -> Result<u8, u8> {
+        c::explain(word, millionths)
+    }
     fn check(&self, sheet: &[u8]) -> Result<Vec<sheet::Field>, (u8, usize)> {
         with_fields(sheet, c::check(sheet))
     }
@@ -85,6 +88,9 @@ impl Subject for Rust {
     fn code(&self, label: u8, source: u8, millionths: i64) -> Result<u32, u8> {
         rust::code(label, source, millionths)
     }
+    fn explain(&self, word: u32, millionths: i64) -> Result<u8, u8> {
+        rust::explain(word, millionths)
+    }
     fn check(&self, sheet: &[u8]) -> Result<Vec<sheet::Field>, (u8, usize)> {
         with_fields(sheet, rust::check(sheet))
     }
@@ -124,6 +130,45 @@ fn every_boundary_figure() {
             figures.into_iter().try_for_each(|m| compare::figure(subject, quantity.label, (m & 3) as u8, m))
         })
     });
+}
+
+/// Every count of every quantity beside the slips of its figure, and figures for which several reasons may hold.
+#[test]
+fn every_explanation() {
+    each(|subject| {
+        figure::QUANTITIES.iter().try_for_each(|quantity| compare::explanations(subject, quantity))?;
+        compare::double_explanations(subject)
+    });
+}
+
+/// Figures explained beside words of every sort.
+#[test]
+fn random_explanations() {
+    each(|subject| {
+        let mut random = Random::from_environment("explanations", 16);
+        (0..20_000).try_for_each(|_| compare::random_explanations(subject, &mut random))
+    });
+}
+
+/// The explanations that are timed: each reason, and each label under it, about equally often, and a few refused words.
+#[test]
+fn timed_explanations() {
+    let explained = input::explanations(&mut input::Random::new(17), 90_000);
+    each(|subject| explained.iter().try_for_each(|&(word, m)| compare::explanation(subject, word, m)));
+    let count = |answer: Result<u8, u8>, labels: &[u8]| {
+        let has = |&&(word, m): &&(u32, i64)| labels.contains(&(word as u8)) && model::explain(word, m) == answer;
+        explained.iter().filter(has).count()
+    };
+    for reason in 1..=9 {
+        for label in [0x49, 0xDE, 0x3E, 0x96, 0x56] {
+            let found = count(Ok(reason), &[label]);
+            assert!((1_750..=2_250).contains(&found), "{found} of {label:02X} have the reason {reason}");
+        }
+    }
+    for refusal in [1, 2, 8] {
+        let found = count(Err(refusal), &(0..=255).collect::<Vec<u8>>());
+        assert!((500..=700).contains(&found), "{found} are refused {refusal}");
+    }
 }
 
 /// A page is its words one by one, and leaves the record of a refused word alone.

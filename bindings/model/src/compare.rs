@@ -2,7 +2,8 @@
 //! functions, or a baseline); what is not implemented is the model itself and so never differs. Each function of this module
 //! runs inputs through both and gives the first difference as text.
 
-use crate::figure;
+use crate::explain;
+use crate::figure::{self, Quantity};
 use crate::generate::{self, Random};
 use crate::listing;
 use crate::reading::{self, Reading, Value};
@@ -29,6 +30,12 @@ pub trait Subject: Sync {
     }
     fn agrees(&self, word: u32, millionths: i64) -> bool {
         figure::agrees(word, millionths)
+    }
+    fn explain(&self, word: u32, millionths: i64) -> Result<u8, u8> {
+        explain::explain(word, millionths)
+    }
+    fn explain_text(&self, input: &[u8]) -> Vec<u8> {
+        explain::explain_text(input)
     }
     fn chart_point(&self, course: u32, glide: u32) -> Result<(f64, f64), u8> {
         reading::chart_point(course, glide)
@@ -134,6 +141,54 @@ pub fn agreement(subject: &dyn Subject, word: u32, millionths: i64) -> Outcome {
     )
 }
 
+/// A figure explained beside a word.
+pub fn explanation(subject: &dyn Subject, word: u32, millionths: i64) -> Outcome {
+    same(
+        || format!("explain {word:08X} {millionths}"),
+        subject.explain(word, millionths),
+        explain::explain(word, millionths),
+    )
+}
+
+/// Figures for which several reasons may hold.
+pub fn double_explanations(subject: &dyn Subject) -> Outcome {
+    generate::double_slips().into_iter().try_for_each(|(word, figure)| explanation(subject, word, figure))
+}
+
+/// Every legal count of a quantity beside the slips of its printed figure, under ready and now and then under each status; some
+/// beside the ends of 64 bits.
+pub fn explanations(subject: &dyn Subject, quantity: &Quantity) -> Outcome {
+    for count in quantity.least..=quantity.greatest {
+        let number = count as i64;
+        let record = figure::measured_record(quantity.label, (number & 3) as u8, number).unwrap();
+        let ready = word::encode(&record).unwrap();
+        generate::slips_of_count(quantity, count).try_for_each(|slip| explanation(subject, ready, slip))?;
+        if number % 61 == 0 {
+            for word in (0..4).map(|status| generate::with_parity(ready & !(3 << 29) | status << 29)) {
+                generate::slips_of_count(quantity, count).try_for_each(|slip| explanation(subject, word, slip))?;
+                generate::ends_of_64_bits().try_for_each(|end| explanation(subject, word, end))?;
+                explanation(subject, word ^ 1 << 31, quantity.print(count) as i64)?;
+            }
+        }
+    }
+    Ok(())
+}
+
+/// The answers to lines with words and figures.
+pub fn explained_text(subject: &dyn Subject, input: &[u8]) -> Outcome {
+    let shown = || format!("explain the text {:?}", String::from_utf8_lossy(&input[..input.len().min(400)]));
+    let [theirs, ours] = [subject.explain_text(input), explain::explain_text(input)];
+    let lines = |text: &[u8]| String::from_utf8_lossy(text).lines().map(str::to_string).collect::<Vec<String>>();
+    if theirs != ours {
+        let (theirs, ours) = (lines(&theirs), lines(&ours));
+        let first =
+            theirs.iter().zip(&ours).position(|(one, other)| one != other).unwrap_or(theirs.len().min(ours.len()));
+        let at = |lines: &[String]| lines.get(first).cloned();
+        return Err(format!("{}: line {} out is {:?}, the model's {:?}", shown(), first + 1, at(&theirs), at(&ours)));
+    }
+    Ok(())
+}
+
 /// One count printed.
 pub fn print(subject: &dyn Subject, label: u8, count: i64) -> Outcome {
     same(|| format!("print {label:03o} {count}"), subject.print(label, count), figure::print_millionths(label, count))
@@ -219,6 +274,7 @@ pub fn random(subject: &dyn Subject, random: &mut Random, rounds: usize) -> Outc
     for _ in 0..rounds {
         random_words(subject, random)?;
         random_figures(subject, random)?;
+        random_explanations(subject, random)?;
         let bytes = generate::any_sheet(random);
         sheet(subject, &bytes)?;
         let room = random.below(400) as usize;
@@ -255,6 +311,15 @@ pub fn random_figures(subject: &dyn Subject, random: &mut Random) -> Outcome {
         agreement(subject, word, millionths)?;
         agreement(subject, word, near)?;
         print(subject, label, random.within(-40_000, 40_000))?;
+    }
+    Ok(())
+}
+
+/// Figures explained beside words.
+pub fn random_explanations(subject: &dyn Subject, random: &mut Random) -> Outcome {
+    for _ in 0..20 {
+        let (word, millionths) = generate::any_explained(random);
+        explanation(subject, word, millionths)?;
     }
     Ok(())
 }

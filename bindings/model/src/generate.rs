@@ -1,8 +1,10 @@
 //! Deterministic inputs for tests: the same seed gives the same inputs on every machine.
 
-use crate::figure::{Quantity, QUANTITIES};
+use crate::explain::LINE_MOST;
+use crate::figure::{self, Quantity, QUANTITIES};
 use crate::sheet::{self, Content, LIMIT};
 use crate::word::{self, Body, Record, LABELS};
+use std::collections::BTreeSet;
 
 /// The splitmix64 generator.
 #[derive(Clone, Debug)]
@@ -314,6 +316,173 @@ pub fn any_millionths(random: &mut Random, quantity: &Quantity) -> i64 {
             *random.pick(&figures)
         }
     }
+}
+
+// ---- figures that are explained
+
+/// The figures that a slip makes of one: itself, times and over 10, 100 and 1000, and with the other sign, where 64 bits hold it.
+pub fn slips(figure: i64) -> impl Iterator<Item = i64> {
+    let wide = i128::from(figure);
+    let slips = [wide, wide * 10, wide * 100, wide * 1000, wide / 10, wide / 100, wide / 1000, -wide];
+    slips.into_iter().filter_map(|slip| i64::try_from(slip).ok())
+}
+
+/// The slips of the figure that a count is printed as, and the millionths beside each.
+pub fn slips_of_count(quantity: &Quantity, count: i128) -> impl Iterator<Item = i64> {
+    slips(quantity.print(count) as i64).flat_map(|slip| slip - 1..=slip + 1)
+}
+
+/// Words beside figures for which several reasons may hold, so that the order alone decides what is told: azimuths where two slips
+/// of the figure lie a whole turn apart, and zeros beside powers of ten.
+pub fn double_slips() -> Vec<(u32, i64)> {
+    const THOUSANDTHS: [i64; 8] = [1000, 100, 10, 1, 10_000, 100_000, 1_000_000, -1000];
+    const TURN: i64 = 360_000_000;
+    let pairs = THOUSANDTHS.iter().flat_map(|one| THOUSANDTHS.iter().map(move |other| one - other));
+    let apart = pairs.filter(|&difference| difference != 0).map(|difference| TURN * 1000 / difference);
+    let figures = apart.flat_map(|figure| [1, 10, 100, 1000].map(|whole| figure / whole * whole));
+    let near = figures.flat_map(|figure| [-1000, -100, -10, -1, 0, 1, 10, 100, 1000].map(|more| figure + more));
+    let azimuths =
+        |figure| slips(figure).filter_map(|slip| figure::code(0o222, 0, slip).ok()).collect::<BTreeSet<u32>>();
+    let turned = near.flat_map(|figure| azimuths(figure).into_iter().map(move |word| (word, figure)));
+    let powers = (0..19).map(|power| 10i64.pow(power)).flat_map(|figure| [figure, -figure]);
+    let zeros = QUANTITIES.map(|quantity| figure::code(quantity.label, 0, 0).unwrap());
+    turned.chain(powers.flat_map(|figure| zeros.map(|word| (word, figure)))).collect()
+}
+
+/// The ends of 64 bits, and of the figures that can be multiplied by 10, 100 and 1000 there.
+pub fn ends_of_64_bits() -> impl Iterator<Item = i64> {
+    let ends = [i64::MIN, i64::MAX].into_iter().flat_map(|end| [1, 10, 100, 1000].map(|over| end / over));
+    ends.flat_map(|end| (-2..=2).filter_map(move |more| end.checked_add(more)))
+}
+
+/// A legal word of a measured label.
+pub fn measured_word(random: &mut Random) -> u32 {
+    let label = random.pick(&QUANTITIES).label;
+    word::encode(&legal_record_of(random, label)).unwrap()
+}
+
+/// A word and a figure to explain: a measured word mostly, and mostly a slip of a figure that agrees with it, at the ends of
+/// those that agree more often than chance.
+pub fn any_explained(random: &mut Random) -> (u32, i64) {
+    let word = if random.once_in(6) { any_word(random) } else { measured_word(random) };
+    let record = word::decode(word).ok();
+    let count = record.and_then(|record| word::count_of(&record));
+    let quantity = figure::quantity_of(word::label_of(word));
+    let (Some(count), Some(quantity)) = (count, quantity) else {
+        let quantity = *random.pick(&QUANTITIES);
+        return (word, any_millionths(random, &quantity));
+    };
+    let mut figures = vec![quantity.print(i128::from(count)) as i64];
+    let turns = if quantity.circle && random.flag() { quantity.greatest - quantity.least + 1 } else { 0 };
+    let half_steps = 2 * (i128::from(count) + turns) + i128::from(random.within(-1, 1));
+    around(&quantity, half_steps, &mut figures);
+    let near = *random.pick(&figures);
+    let slips: Vec<i64> = slips(near).collect();
+    let millionths = match random.below(8) {
+        0 => any_millionths(random, &quantity),
+        1 => *random.pick(&ends_of_64_bits().collect::<Vec<i64>>()),
+        2 => random.pick(&slips).saturating_add(random.within(-1000, 1000)),
+        _ => *random.pick(&slips),
+    };
+    (word, millionths)
+}
+
+/// A figure as it may be typed: with a point or a comma, with fewer decimals where they are zeros, with more zeros before it,
+/// with a plus sign.
+fn typed_figure(random: &mut Random, millionths: i64) -> String {
+    let mut text = figure::decimals_text(millionths);
+    while text.ends_with('0') && random.once_in(2) {
+        text.pop();
+    }
+    if text.ends_with('.') && random.flag() {
+        text.pop();
+    }
+    let (sign, size) = match text.strip_prefix('-') {
+        Some(size) => ("-", size),
+        None => (*random.pick(&["", "", "+"]), text.as_str()),
+    };
+    let size = match size.strip_prefix("0.") {
+        Some(decimals) if !decimals.is_empty() && random.once_in(4) => format!(".{decimals}"),
+        _ => "0".repeat(if random.once_in(8) { random.below(30) as usize } else { 0 }) + size,
+    };
+    let size = if random.once_in(4) { size.replace('.', ",") } else { size };
+    format!("{sign}{size}")
+}
+
+/// Blanks and tabs: some, or perhaps none.
+fn blanks(random: &mut Random, least: u64) -> String {
+    let number = if random.once_in(6) { least + random.below(5) } else { least };
+    (0..number).map(|_| *random.pick(&[' ', ' ', '\t'])).collect()
+}
+
+/// A line with a word and a figure.
+fn typed_line(random: &mut Random) -> Vec<u8> {
+    let (word, millionths) = any_explained(random);
+    let word = match random.below(3) {
+        0 => format!("{word:08x}"),
+        _ => format!("{word:08X}"),
+    };
+    let (before, between, after) = (blanks(random, 0), blanks(random, 1), blanks(random, 0));
+    format!("{before}{word}{between}{}{after}", typed_figure(random, millionths)).into_bytes()
+}
+
+/// A change to a line: a byte changed, put in or left out, most often by one that means something; or the line cut or doubled.
+fn damage_line(random: &mut Random, line: &mut Vec<u8>) {
+    let byte = if random.flag() { *random.pick(b" \t\r#+-.,0aFgxE\0\x7F\xFF\n") } else { random.draw() as u8 };
+    let place = random.below(line.len() as u64 + 1) as usize;
+    match random.below(6) {
+        0 => line.truncate(place),
+        1 if place < line.len() => drop(line.remove(place)),
+        2 if place < line.len() => line[place] = byte,
+        3 => line.extend(line.clone()),
+        _ => line.insert(place, byte),
+    }
+}
+
+/// A line of a length near the longest that is read, or of any: with blanks or zeros put in, or with no meaning.
+fn long_line(random: &mut Random) -> Vec<u8> {
+    let most = LINE_MOST as i64;
+    let length = match random.below(6) {
+        0 => random.within(0, 3000),
+        _ => random.within(most - 2, most + 2),
+    } as usize;
+    let mut line = typed_line(random);
+    let more = length.saturating_sub(line.len());
+    match random.below(6) {
+        0 => line.splice(0..0, vec![b' '; more]).for_each(drop),
+        1 => line.resize(line.len() + more, b'\t'),
+        2 => line = vec![b'#'; length],
+        3 => line = random.bytes(length),
+        _ => {
+            let after_word = line.iter().rposition(|byte| b" \t+-".contains(byte)).unwrap() + 1;
+            line.splice(after_word..after_word, vec![b'0'; more]).for_each(drop);
+        }
+    }
+    line
+}
+
+/// Lines as transcribers type them, and as they should not be: about `size` bytes.
+pub fn typed_text(random: &mut Random, size: usize) -> Vec<u8> {
+    let mut text = Vec::new();
+    while text.len() < size {
+        let mut line = match random.below(16) {
+            0 => Vec::new(),
+            1 => b"# as typed".to_vec(),
+            2 => long_line(random),
+            _ => typed_line(random),
+        };
+        if random.once_in(5) {
+            damage_line(random, &mut line);
+        }
+        text.extend(line);
+        let end = *random.pick(&["\n", "\n", "\n", "\n", "\n", "\r\n", "\r\n", "\r\r\n"]);
+        text.extend(end.as_bytes());
+    }
+    if random.once_in(3) {
+        let cut = text.len().saturating_sub(random.below(20) as usize);
+        text.truncate(cut);
+    }
+    text
 }
 
 // ---- groups of parts

@@ -1,10 +1,12 @@
-//! Document 01's own lines ("Lines to check against"), the slips it names, and points settled in its readings.
+//! Document 01's own lines ("Lines to check against"), the slips it names, the lines of the requests, and points settled in the
+//! readings.
 
+use model::explain::{typed_figure, typed_word, REASONS};
 use model::reading::{self, Reading, Value};
 use model::reassembly::{step, Answer};
 use model::sheet::{self, Content};
 use model::word::{self, FAILURE, NODATA, READY, TEST};
-use model::{agrees, code, decode, encode, list, note, print_text, write, Body, Record};
+use model::{agrees, code, decode, encode, explain, explain_text, list, note, print_text, write, Body, Record};
 
 fn value(word: u32) -> Value {
     reading::reading(&decode(word).unwrap()).unwrap().value
@@ -89,6 +91,149 @@ fn agreement() {
     assert!(agrees(encode(&Record { source: 2, body }).unwrap(), 100_000));
     assert!(!agrees(0x04C8_0038, 0));
     assert!(!agrees(0xE800_0048, 90_000_000));
+}
+
+/// The reasons of request 1, each by a figure of its own; the word says 0.1, and typed was 1.0.
+#[test]
+fn explanations() {
+    let course = 0x6400_00DE;
+    for (reason, millionths) in [
+        (1, 100_000),
+        (2, 1_000_000),
+        (3, 10_000_000),
+        (4, 100_000_000),
+        (5, 10_000),
+        (6, 1000),
+        (7, 100),
+        (8, -100_000),
+        (9, 0),
+        (9, 200_000),
+        (9, i64::MAX),
+        (9, i64::MIN),
+        // Around 0.1 the figures from 99952 to 100048 agree: ten does not divide the first of these.
+        (9, 1_000_001),
+        (2, 1_000_480),
+        (9, 1_000_490),
+        (9, 999_510),
+        (2, 999_520),
+    ] {
+        assert_eq!(explain(course, millionths), Ok(reason), "{millionths}");
+    }
+    // Of several true reasons the first is told: zero agrees, and so do its tenth, ten times it, and its other sign.
+    let zero = code(0o173, 0, 0).unwrap();
+    assert!((1..=8).all(|reason| model::explain::holds(reason, zero, 0)));
+    assert_eq!(explain(zero, 0), Ok(1));
+    // -180 degrees typed as 180 is the same azimuth.
+    let south = code(0o222, 0, -180_000_000).unwrap();
+    assert_eq!(explain(south, 180_000_000), Ok(1));
+    assert_eq!(explain(south, 1_800_000_000), Ok(2));
+    assert_eq!(explain(south, -1_800_000_000), Ok(2));
+    // Beside an azimuth of -0.351562 degrees 0.35964 has two true reasons: 359.64 is nearest to its count, and so is -0.35964.
+    let west = code(0o222, 0, -351_562).unwrap();
+    assert!((1..=8).filter(|&reason| model::explain::holds(reason, west, 359_640)).eq([7, 8]));
+    assert_eq!(explain(west, 359_640), Ok(7));
+}
+
+/// "the word's own number first, then 2 for a word that isn't one of the five measured ones, then 8 when it has no reading".
+#[test]
+fn explanations_refused() {
+    assert_eq!(explain(0xE800_0048, 90_000_000), Err(1));
+    assert_eq!(explain(0xEB44_00D6, 0), Err(6));
+    assert_eq!(explain(0x04C8_0038, 113_200_000), Err(2));
+    let word = |body| encode(&Record { source: 1, body }).unwrap();
+    // A frequency without a reading is 2 all the same.
+    assert_eq!(explain(word(Body::VorFrequency { status: NODATA, frequency: 11_320 }), 0), Err(2));
+    assert_eq!(explain(word(Body::Part2 { content: 0 }), 0), Err(2));
+    for (status, answer) in [(FAILURE, Err(8)), (NODATA, Err(8)), (TEST, Ok(1)), (READY, Ok(1))] {
+        assert_eq!(explain(word(Body::IlsCourse { status, inhibit: true, count: 1024 }), 100_000), answer);
+    }
+}
+
+fn explained(input: &str) -> String {
+    String::from_utf8(explain_text(input.as_bytes())).unwrap()
+}
+
+#[test]
+fn explained_lines() {
+    let input = "640000DE 1.0\n640000DE 0.1\nE8000048 90\nno word\n";
+    let text = "640000DE 1.000000: a tenth agrees; the word says 0.100000\n\
+                640000DE 0.100000: agrees\n\
+                E8000048 90.000000: refused 1\n\
+                line 4: no word and figure\n\
+                lines 4 agree 1 disagree 1 refused 1 unread 1\n";
+    assert_eq!(explained(input), text);
+    assert_eq!(explained(&input[..input.len() - 1]), text);
+    assert_eq!(explained(&input.replace('\n', "\r\n")), text);
+    assert_eq!(explained(&input.replace(' ', " \t ").replace("no \t word", "no word")), text);
+    assert_eq!(explained(&input.replace("DE", "de").replace('.', ",")), text);
+    assert_eq!(explained(""), "lines 0 agree 0 disagree 0 refused 0 unread 0\n");
+    // Lines that pass are not counted, but have a place.
+    assert_eq!(
+        explained("# typed in June\n\n\r\n#\r\n \n\r\r\n"),
+        "line 5: no word and figure\nline 6: no word and figure\nlines 2 agree 0 disagree 0 refused 0 unread 2\n"
+    );
+    for (reason, typed) in ["0.1", "1", "10", "100", "0.01", "0.001", "0.0001", "-.1", "-0"].into_iter().enumerate() {
+        let (name, says) = (REASONS[reason], if reason == 0 { "" } else { "; the word says 0.100000" });
+        let text = explained(&format!("640000DE {typed}"));
+        assert!(text.lines().next().unwrap().ends_with(&format!(": {name}{says}")), "{text}");
+    }
+}
+
+#[test]
+fn typed_figures() {
+    for (text, millionths) in [
+        ("1", 1_000_000),
+        ("5.", 5_000_000),
+        (".5", 500_000),
+        ("+,5", 500_000),
+        ("-0", 0),
+        ("-0.000001", -1),
+        ("000000000000000000000000000000000000000000000001.5", 1_500_000),
+        ("9223372036854.775807", i64::MAX),
+        ("-9223372036854,775808", i64::MIN),
+    ] {
+        assert_eq!(typed_figure(text.as_bytes()), Some(millionths), "{text}");
+    }
+    let too_long = "9".repeat(190);
+    for text in [
+        "",
+        ".",
+        "+",
+        "-.",
+        "1.0000000",
+        "1.2.3",
+        "1,2.3",
+        "--1",
+        "+-1",
+        "1-",
+        "1e3",
+        "0x1",
+        "9223372036854.775808",
+        "-9223372036854.775809",
+        "18446744073709.551616",
+        &too_long,
+        "１",
+    ] {
+        assert_eq!(typed_figure(text.as_bytes()), None, "{text}");
+    }
+    for text in ["640000D", "640000DE0", "640000DG", "+40000DE", "0x640000", "64 000DE"] {
+        assert_eq!(typed_word(text.as_bytes()), None, "{text}");
+    }
+    assert_eq!(typed_word(b"fC000049"), Some(0xFC00_0049));
+}
+
+/// A line of 200 bytes is read, one of 201 is not; a carriage return at its end is not part of it, and a comment has any length.
+#[test]
+fn long_lines() {
+    let line = |length: usize| format!("640000DE {}1", " ".repeat(length - 10));
+    let answer = |text: &str| explained(text).lines().next().unwrap().to_string();
+    let read = "640000DE 1.000000: a tenth agrees; the word says 0.100000";
+    assert_eq!(answer(&line(200)), read);
+    assert_eq!(answer(&(line(200) + "\r\n")), read);
+    assert_eq!(answer(&line(201)), "line 1: no word and figure");
+    assert_eq!(answer(&(line(201) + "\r\n")), "line 1: no word and figure");
+    assert_eq!(answer(&("#".repeat(3000) + "\n640000DE 1")), read);
+    assert_eq!(answer(&("x".repeat(1 << 20) + "\n640000DE 1")), "line 1: no word and figure");
 }
 
 #[test]

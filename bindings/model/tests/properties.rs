@@ -1,12 +1,14 @@
 //! What must hold of the model itself: the three demands, tried on many inputs.
 
 use model::compare::{self, Model, Subject};
-use model::figure::QUANTITIES;
+use model::explain;
+use model::figure::{quantity_of, QUANTITIES};
 use model::generate::{self, Random};
 use model::reading::{self, Reading};
 use model::sheet::{self, Content, Field, LIMIT};
 use model::word::{self, Body, READY, TEST};
-use model::{code, decode, encode, print_millionths};
+use model::{code, decode, encode, explain_text, print_millionths};
+use std::collections::BTreeSet;
 
 #[test]
 fn accepted_words_and_legal_records_give_each_other_back() {
@@ -86,6 +88,127 @@ fn coding_is_monotone_on_a_line() {
     }
 }
 
+/// All figures that agree with a word, found one by one around the value of its count, and a turn around it.
+fn agreeing(word: u32) -> BTreeSet<i64> {
+    let record = decode(word).unwrap();
+    let quantity = quantity_of(word::label_of(word)).unwrap();
+    let value = quantity.print(word::count_of(&record).unwrap().into()) as i64;
+    let reach = (quantity.numerator / quantity.denominator) as i64;
+    let turns: &[i64] = if quantity.circle { &[-1, 0, 1] } else { &[0] };
+    let near = turns.iter().flat_map(|turn| (-reach..=reach).map(move |more| value + turn * 360_000_000 + more));
+    near.filter(|&figure| model::agrees(word, figure)).collect()
+}
+
+/// The reason told is true by its sentence and no earlier one is: each sentence is read the other way round, from the figures that
+/// agree to the one that was typed.
+fn told_truly(word: u32, agreeing: &BTreeSet<i64>, millionths: i64) -> u8 {
+    let typed = i128::from(millionths);
+    let any = |is: &dyn Fn(i128) -> bool| agreeing.iter().any(|&figure| is(i128::from(figure)));
+    let sentences = [
+        any(&|figure| figure == typed),
+        any(&|figure| figure * 10 == typed),
+        any(&|figure| figure * 100 == typed),
+        any(&|figure| figure * 1000 == typed),
+        any(&|figure| figure == typed * 10),
+        any(&|figure| figure == typed * 100),
+        any(&|figure| figure == typed * 1000),
+        any(&|figure| figure == -typed),
+    ];
+    let reason = model::explain(word, millionths).unwrap();
+    let before = usize::from(reason) - 1;
+    assert!(sentences[..before].iter().all(|holds| !holds), "{word:08X} {millionths}: {reason} {sentences:?}");
+    assert!(before == 8 || sentences[before], "{word:08X} {millionths}: {reason} {sentences:?}");
+    for (reason, holds) in (1..).zip(sentences) {
+        assert_eq!(explain::holds(reason, word, millionths), holds, "{word:08X} {millionths}: {reason}");
+    }
+    reason
+}
+
+#[test]
+fn the_first_true_reason_is_told() {
+    let mut random = Random::from_environment("reasons", 7);
+    let mut told = [0; 10];
+    for quantity in QUANTITIES {
+        let rounds = if quantity.numerator / quantity.denominator < 1000 { 200 } else { 3 };
+        for _ in 0..rounds {
+            let mut record = generate::legal_record_of(&mut random, quantity.label);
+            while reading::reading(&record).is_none() {
+                record = generate::legal_record_of(&mut random, quantity.label);
+            }
+            let (word, count) = (encode(&record).unwrap(), word::count_of(&record).unwrap());
+            let agreeing = agreeing(word);
+            let ends = [*agreeing.first().unwrap(), *agreeing.last().unwrap()];
+            let slips = generate::slips_of_count(&quantity, count.into());
+            let of_ends = ends.into_iter().flat_map(generate::slips);
+            let anywhere: Vec<i64> = (0..8).map(|_| generate::any_millionths(&mut random, &quantity)).collect();
+            for millionths in slips.chain(of_ends).chain(anywhere).chain(generate::ends_of_64_bits()) {
+                told[usize::from(told_truly(word, &agreeing, millionths))] += 1;
+            }
+        }
+    }
+    assert!(told[1..].iter().all(|&times| times > 50), "{told:?}");
+}
+
+/// The words and figures made for comparisons reach every reason and every refusal.
+#[test]
+fn explanations_reach_every_answer() {
+    let mut random = Random::from_environment("explanations", 8);
+    let (mut told, mut refused) = ([0; 10], [0; 9]);
+    for _ in 0..200_000 {
+        let (word, millionths) = generate::any_explained(&mut random);
+        match model::explain(word, millionths) {
+            Ok(reason) => told[usize::from(reason)] += 1,
+            Err(number) => refused[usize::from(number)] += 1,
+        }
+    }
+    assert!(told[1..].iter().all(|&times| times > 1000), "{told:?}");
+    assert!(refused[1..].iter().all(|&times| times > 10), "{refused:?}");
+}
+
+/// Which reasons hold together, the first of them told: the figures made for comparisons show the order of these. Two slips with one
+/// sign lie apart by less than a turn, so no others are there but beside a zero, where the first agrees.
+#[test]
+fn several_reasons_may_hold() {
+    let mut pairs = BTreeSet::new();
+    for (word, figure) in generate::double_slips() {
+        let told = model::explain(word, figure).unwrap();
+        let later = (told + 1..=8).filter(|&later| explain::holds(later, word, figure));
+        pairs.extend(later.filter(|_| told > 1).map(|later| (told, later)));
+    }
+    assert!(pairs.into_iter().eq([(2, 3), (2, 4), (2, 8), (3, 4), (3, 8), (4, 8), (5, 8), (6, 8), (7, 8)]));
+}
+
+/// The texts made for comparisons have answers of every sort; each answer's word and figure, typed again, has that answer.
+#[test]
+fn explained_texts() {
+    let mut random = Random::from_environment("typed texts", 9);
+    let mut sorts = [0; 4];
+    for _ in 0..300 {
+        let size = random.below(3000) as usize;
+        let text = String::from_utf8(explain_text(&generate::typed_text(&mut random, size))).unwrap();
+        let mut lines: Vec<&str> = text.lines().collect();
+        let totals: Vec<&str> = lines.pop().unwrap().split(' ').collect();
+        let unread = lines.iter().filter(|line| line.starts_with("line ")).count();
+        let agree = lines.iter().filter(|line| line.ends_with(": agrees")).count();
+        let refused = lines.iter().filter(|line| line.contains(": refused ")).count();
+        let counts = [agree, lines.len() - agree - refused - unread, refused, unread];
+        for (name, count) in [("lines", lines.len()), ("agree", counts[0]), ("disagree", counts[1])]
+            .into_iter()
+            .chain([("refused", refused), ("unread", unread)])
+        {
+            let place = totals.iter().position(|&word| word == name).unwrap();
+            assert_eq!(totals[place + 1], count.to_string());
+        }
+        sorts.iter_mut().zip(counts).for_each(|(total, more)| *total += more);
+        for line in lines.iter().filter(|line| !line.starts_with("line ")) {
+            let typed = line.split(':').next().unwrap();
+            let again = String::from_utf8(explain_text(typed.as_bytes())).unwrap();
+            assert_eq!(again.lines().next(), Some(*line));
+        }
+    }
+    assert!(sorts.iter().all(|&times| times > 100), "{sorts:?}");
+}
+
 /// "A field added at the end of a legal sheet leaves a legal sheet", with that sheet's fields and the new one.
 #[test]
 fn a_field_added_to_a_legal_sheet_leaves_it_legal() {
@@ -152,6 +275,18 @@ impl Subject for Wrong {
             _ => model::code(label, source, millionths),
         }
     }
+    /// The other sign is told before a thousand times.
+    fn explain(&self, word: u32, millionths: i64) -> Result<u8, u8> {
+        match model::explain(word, millionths) {
+            Ok(7) if explain::holds(8, word, millionths) => Ok(8),
+            answer => answer,
+        }
+    }
+    /// Lines that pass have no place.
+    fn explain_text(&self, input: &[u8]) -> Vec<u8> {
+        let lines = input.split_inclusive(|&byte| byte == b'\n');
+        explain_text(&lines.filter(|line| line[0] != b'#').collect::<Vec<_>>().concat())
+    }
     /// A negative zero.
     fn chart_point(&self, course: u32, glide: u32) -> Result<(f64, f64), u8> {
         reading::chart_point(course, glide).map(|(x, y)| (x, -y))
@@ -206,4 +341,10 @@ fn comparison_finds_differences() {
     assert!(compare::write(&Wrong, &[0; 7], 0, &Content::Word(0)).is_ok());
     assert!(compare::write(&Wrong, &[0; 6], 0, &Content::Word(0)).is_err());
     assert!(compare::listing_room(&Wrong, &[], 5).is_err());
+    let west = code(0o222, 0, -351_562).unwrap();
+    assert!(compare::explanation(&Wrong, west, -35_156_200).is_ok());
+    assert!(compare::explanation(&Wrong, west, 359_640).is_err());
+    assert!(compare::double_explanations(&Wrong).is_err());
+    assert!(compare::explained_text(&Wrong, b"#\n640000DE 1\n").is_ok());
+    assert!(compare::explained_text(&Wrong, b"#\n640000DE\n").is_err());
 }

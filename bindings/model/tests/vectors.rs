@@ -47,6 +47,24 @@ fn figures() {
 }
 
 #[test]
+fn explanations() {
+    const NAMES: [&str; 9] =
+        ["agrees", "tenth", "hundredth", "thousandth", "ten", "hundred", "thousand", "sign", "none"];
+    let mut told = [0; 9];
+    for line in lines("test_explain/data/explain.txt", 500) {
+        let answer = match model::explain(hex(&line[0]), line[1].parse().unwrap()) {
+            Ok(reason) => {
+                told[usize::from(reason) - 1] += 1;
+                NAMES[usize::from(reason) - 1].to_string()
+            }
+            Err(number) => format!("refused {number}"),
+        };
+        assert_eq!(answer, line[2..].join(" "), "{line:?}");
+    }
+    assert!(told.iter().all(|&times| times > 0), "{told:?}");
+}
+
+#[test]
 fn joins() {
     let mut state = None;
     for line in lines("test_reassembly/data/joins.txt", 200) {
