@@ -1,11 +1,9 @@
 -- What is answered to a typed line of a word and a figure, byte by byte, and what the line is counted as.
 -- Assumes nothing.
-use mathlib.Core.Path.{_≡_, refl, ap}
+use mathlib.Core.Path.{_≡_, ap}
 use mathlib.Core.Bool.{cond}
 use mathlib.Core.List.{List, [], _++_}
-use mathlib.Core.Logic.{_≢_}
 use Prim.Native.Nat.{ℕ}
-use borrow.Author.Tests.{eq-eqb, ne-eqb}
 use lib.Dec.{eqb}
 use lib.IntN.{ℤ, pos}
 use Rattle.refusals.specs.Numbers.{numberOf}
@@ -14,30 +12,15 @@ use Rattle.quantities.specs.Nearest.{millionthsOf}
 use Rattle.measurements.specs.declared.Measurement.{Measurement}
 use Rattle.agreements.specs.Agreement.{wordMeasurement}
 use Rattle.reasons.specs.Reasons.{numberOf as reasonNumber}
-use Rattle.reasons.specs.declared.Reason.{Reason}
 use Rattle.explanations.specs.Explanations.{explainedOf}
 use Rattle.explanations.specs.declared.Explained.{Explained}
+use Rattle.reason_texts.specs.ReasonTexts.{becauseText}
 use Rattle.text.specs.Ascii.{ascii}
 use Rattle.hex_texts.specs.HexTexts.{wordText}
 use Rattle.numerals.specs.Digits.{decimal, signedFixed}
 use Rattle.typed_pairs.specs.Pairs.{lineOf}
 use Rattle.typed_pairs.specs.declared.TypedLine.{TypedLine}
 use Rattle.answers.specs.declared.Outcome.{Outcome}
-
-abbrev pub reasonText : Reason → List ℕ
-reasonText Reason.Agrees = ascii "agrees"
-reasonText Reason.Tenth = ascii "a tenth agrees"
-reasonText Reason.Hundredth = ascii "a hundredth agrees"
-reasonText Reason.Thousandth = ascii "a thousandth agrees"
-reasonText Reason.TenTimes = ascii "ten times it agrees"
-reasonText Reason.HundredTimes = ascii "a hundred times it agrees"
-reasonText Reason.ThousandTimes = ascii "a thousand times it agrees"
-reasonText Reason.OtherSign = ascii "the other sign agrees"
-reasonText Reason.NoneOfThese = ascii "none of these"
-
--- behind all but the first stands the word's figure
-abbrev pub becauseText : Reason → ℤ → List ℕ
-becauseText r figure = cond (eqb (reasonNumber r) 1) (reasonText r) (reasonText r ++ ascii "; the word says " ++ signedFixed 6 figure)
 
 -- why, or the refusal's number
 abbrev pub explainedText : Explained → ℤ → List ℕ
@@ -84,12 +67,6 @@ unfoldable pub outcomeOf : List ℕ → Outcome
 outcomeOf line = typedOutcome (lineOf line)
 
 -- ---- what the proofs of the writers cite
-
-pub because-first : (r : Reason) (figure : ℤ) → reasonNumber r ≡ 1 → reasonText r ≡ becauseText r figure
-because-first r figure e = rw (eq-eqb (reasonNumber r) 1 e) refl
-
-pub because-other : (r : Reason) (figure : ℤ) → reasonNumber r ≢ 1 → reasonText r ++ ascii "; the word says " ++ signedFixed 6 figure ≡ becauseText r figure
-because-other r figure e = rw (ne-eqb (reasonNumber r) 1 e) refl
 
 pub answer-read : (number : ℕ) (line : List ℕ) {typed : TypedLine} → typed ≡ lineOf line → typedAnswer number typed ≡ answerText number line
 unfolding answerText

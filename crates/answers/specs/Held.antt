@@ -18,7 +18,8 @@ use Rattle.explanations.specs.Explanations.{heldUnder, heldIn, countAgrees, exp
 use Rattle.explanations.specs.declared.Held.{Held}
 use Rattle.text.specs.Ascii.{ascii}
 use Rattle.numerals.specs.Digits.{decimal}
-use Rattle.answers.specs.Answers.{becauseText, explainedText, figureFor, pairText, pairAnswer}
+use Rattle.reason_texts.specs.ReasonTexts.{becauseText}
+use Rattle.answers.specs.Answers.{explainedText, figureFor, pairText, pairAnswer}
 
 abbrev pub heldText : Held → ℤ → List ℕ
 heldText (Held.Count q c) figure = becauseText (reasonOf (countAgrees q c) figure) (millionthsOf q c)

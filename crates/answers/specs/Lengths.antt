@@ -1,4 +1,4 @@
--- How long an answer is at most, so that a buffer can be given that holds the answers to a whole page.
+-- How long an answer is at most, so that a buffer can be given that holds the answers to many lines.
 -- Assumes nothing.
 use mathlib.Core.Path.{_≡_, refl, subst, subst⁻¹}
 use mathlib.Core.Bool.{Bool, true, false, cond}
@@ -41,7 +41,8 @@ use Rattle.numerals.specs.Theorems.{decimal-length, signed-length}
 use Rattle.typed_pairs.specs.Pairs.{lineOf}
 use Rattle.typed_pairs.specs.Theorems.{passed-exactly, pair-within}
 use Rattle.typed_pairs.specs.declared.TypedLine.{TypedLine}
-use Rattle.answers.specs.Answers.{reasonText, becauseText, explainedText, figureFor, pairAnswer, unreadAnswer, typedAnswer, answerText}
+use Rattle.reason_texts.specs.ReasonTexts.{reasonText, becauseText}
+use Rattle.answers.specs.Answers.{explainedText, figureFor, pairAnswer, unreadAnswer, typedAnswer, answerText}
 
 -- ---- figures
 

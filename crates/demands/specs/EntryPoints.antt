@@ -25,6 +25,10 @@ use Rattle.chart.specs.Words.{chartPoint, word-order}
 use Rattle.chart.specs.Words as chart-words
 use Rattle.quantities.specs.declared.Quantity.{Quantity}
 use Rattle.figures.specs.Coding.{codedUnder, codedOf}
+use Rattle.explanations.specs.Explanations.{explainedOf}
+use Rattle.explanations.specs.Statements.{explaining}
+use Rattle.explanations.specs.Statements as explanation
+use Rattle.explanations.specs.Theorems.{follows}
 use Rattle.part_words.specs.Parts.{partIn}
 use Rattle.reassembly.specs.Step.{takeWord}
 use Rattle.reassembly.specs.declared.Reassembler.{Reassembler}
@@ -63,6 +67,8 @@ pub record Demand1 : Type 0 where
   -- a figure to its word: `code_figure`, and `code_under` under any label
   pub figure : (label source : ℕ) (millionths : ℤ) → Follows encoded (figureRules label source millionths) (codedOf label source millionths)
   pub figure-as : (q : Quantity) (label source : ℕ) (millionths : ℤ) → Follows encoded (figureRulesAs q source millionths) (codedUnder q label source millionths)
+  -- a word and a figure to the reason why they agree or do not: `explain`
+  pub explained : (w : ℕ) (millionths : ℤ) → Follows explaining (explanation.wordRules document01 w) (explainedOf w millionths)
   -- two words, or two records, to a chart point: `chart_point`, `chart_of`
   pub chart : (course glide : ℕ) → Follows charted (chart-words.wordRules course glide) (chartPoint course glide)
   pub chart-records : (course glide : Record) → Follows charted (points.recordRules course glide) (chartOf course glide)
@@ -110,6 +116,7 @@ demand1 = record {
   record-as = record-follows-as;
   figure = figure-follows;
   figure-as = figure-follows-as;
+  explained = follows document01;
   chart = word-order;
   chart-records = chart-order;
   part = part-follows;

@@ -1,15 +1,15 @@
 // Explains the words and figures that are typed on standard input, one of each to a line, to standard output.
-use explain_pages::Paged;
+use explain_texts::AnsweredLines;
 use libc::STDOUT_FILENO;
-use pages::Progress;
+use line_answers::Progress;
 use standard_input::Chunk;
 ghost use mathlib.Core.Path.{_≡_};
 ghost use Prim.Native.Nat.{_-_, _≤_, min};
 ghost use lib.ListN.{length, take, drop};
 ghost use Rattle.io.specs.Counts.{Counts};
 ghost use Rattle.text_lines.specs.Lines.{linesOf, wholeLines, begunLine};
-ghost use Rattle.pages.specs.Pages.{progressOf, pageText, textFrom};
-ghost use Rattle.pages.specs.Pieces.{kept};
+ghost use Rattle.line_answers.specs.LineAnswers.{progressOf, answersText, textFrom};
+ghost use Rattle.line_answers.specs.Pieces.{kept};
 
 // What a piece of the input gives.
 struct Answered {
@@ -28,14 +28,14 @@ struct State {
     progress: Progress,
 }
 
-// Puts the answers to a page's lines into a buffer that has room for those of every page.
-fn explain_whole(page: &[u8], before: Progress, text: &mut [u8]) -> Paged
-    requires { ⌜ (length (now page) ≤ 4352) × (278592 ≤ length (now text)) ⌝ }
+// Puts the answers to whole lines into a buffer that has room for those of every piece.
+fn explain_whole(lines: &[u8], before: Progress, text: &mut [u8]) -> AnsweredLines
+    requires { ⌜ (length (now lines) ≤ 4352) × (278592 ≤ length (now text)) ⌝ }
     ensures { λ r. ⌜ Counts (r .length) (now (text .exit)) ⌝ }
-    ensures { λ r. ⌜ take (r .length) (now (text .exit)) ≡ pageText (before .seen) (linesOf (now (page .entry))) ⌝ }
-    ensures { λ r. ⌜ r .after ≡ progressOf before (linesOf (now (page .entry))) ⌝ }
+    ensures { λ r. ⌜ take (r .length) (now (text .exit)) ≡ answersText (before .seen) (linesOf (now (lines .entry))) ⌝ }
+    ensures { λ r. ⌜ r .after ≡ progressOf before (linesOf (now (lines .entry))) ⌝ }
 {
-    explain_pages::explain_page(page, before, text)
+    explain_texts::explain_text(lines, before, text)
 }
 
 // Puts the answer to the last line, which no line feed ends, and the totals into such a buffer, and gives their length.
@@ -44,8 +44,8 @@ fn put_end(begun: &[u8], before: Progress, text: &mut [u8]) -> usize
     ensures { λ r. ⌜ Counts r (now (text .exit)) ⌝ }
     ensures { λ r. ⌜ take r (now (text .exit)) ≡ textFrom before (linesOf (now (begun .entry))) ⌝ }
 {
-    let page = explain_pages::explain_page(begun, before, text);
-    explain_pages::put_totals(text, page.length, page.after)
+    let answered = explain_texts::explain_text(begun, before, text);
+    explain_totals::put_totals(text, answered.length, answered.after)
 }
 
 // How many bytes of a begun line are kept.
@@ -79,25 +79,25 @@ fn keep_begun(buffer: &mut [u8], from: usize, filled: usize) -> usize
 fn answer_piece(buffer: &mut [u8], filled: usize, before: Progress, text: &mut [u8]) -> Answered
     requires { ⌜ (filled ≤ 4352) × (filled ≤ length (now buffer)) × (278592 ≤ length (now text)) ⌝ }
     ensures { λ r. ⌜ Counts (r .length) (now (text .exit)) ⌝ }
-    ensures { λ r. ⌜ take (r .length) (now (text .exit)) ≡ pageText (before .seen) (linesOf (wholeLines (take filled (now (buffer .entry))))) ⌝ }
+    ensures { λ r. ⌜ take (r .length) (now (text .exit)) ≡ answersText (before .seen) (linesOf (wholeLines (take filled (now (buffer .entry))))) ⌝ }
     ensures { λ r. ⌜ r .after ≡ progressOf before (linesOf (wholeLines (take filled (now (buffer .entry))))) ⌝ }
     ensures { λ r. ⌜ r .begun ≤ 202 ⌝ }
     ensures { λ r. ⌜ take (r .begun) (now (buffer .exit)) ≡ kept (begunLine (take filled (now (buffer .entry)))) ⌝ }
 {
-    let whole = text_lines::whole_lines(&buffer[..filled]);
-    let page = explain_whole(&buffer[..whole], before, text);
+    let whole = line_ends::whole_lines(&buffer[..filled]);
+    let answered = explain_whole(&buffer[..whole], before, text);
     let begun = keep_begun(buffer, whole, filled);
-    let after = page.after;
+    let after = answered.after;
     Answered {
         after,
-        length: page.length,
+        length: answered.length,
         begun,
     }
 }
 
-// Writes a page to standard output, or says that it cannot be written. Whether it was.
-fn write_page(name: &[u8], page: &[u8]) -> bool {
-    let written = io::write_all(STDOUT_FILENO, page);
+// Writes answers to standard output, or says that they cannot be written. Whether they were.
+fn write_answers(name: &[u8], answers: &[u8]) -> bool {
+    let written = io::write_all(STDOUT_FILENO, answers);
     if !written {
         standard_streams::say_unwritten(name);
     }
@@ -117,7 +117,7 @@ fn read_on(name: &[u8], buffer: &mut [u8], state: State, text: &mut [u8]) -> Sta
             let length = answered.length;
             let after = answered.after;
             State {
-                going: write_page(name, &text[..length]),
+                going: write_answers(name, &text[..length]),
                 begun: answered.begun,
                 progress: after,
             }

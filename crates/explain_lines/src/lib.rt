@@ -105,5 +105,5 @@ pub fn put_answer(out: &mut [u8], at: usize, number: u64, line: &[u8]) -> Answer
     ensures text { λ r. ⌜ Writes (now (out .entry)) at (answerText number (now (line .entry))) (now (out .exit)) (r .next) ⌝ }
     ensures outcome { λ r. ⌜ r .outcome ≡ outcomeOf (now (line .entry)) ⌝ }
 {
-    put_typed_answer(out, at, number, typed_pairs::read_line(line))
+    put_typed_answer(out, at, number, pair_reader::read_line(line))
 }

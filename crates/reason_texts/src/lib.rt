@@ -1,7 +1,7 @@
 // The text of a reason, into a buffer: what fits is stored and all is counted, as in the crate `text`.
 use reasons::Reason;
 ghost use Rattle.text.specs.Writing.{Writes};
-ghost use Rattle.answers.specs.Answers.{reasonText, becauseText};
+ghost use Rattle.reason_texts.specs.ReasonTexts.{reasonText, becauseText};
 
 // A reason.
 fn put_reason(out: &mut [u8], at: usize, reason: Reason) -> usize

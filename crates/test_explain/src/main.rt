@@ -21,36 +21,26 @@ fn is_right(word: u32, millionths: i64, answer: Answer) -> bool
     (found.refusal as u64 == answer.refusal) & (found.reason as u64 == answer.reason)
 }
 
-// The number of the reason that a text tells, or 0.
-fn reason_in(text: &[u8]) -> u64 {
-    if check::same(text, b"agrees") {
-        return 1;
-    }
-    if check::same(text, b"tenth") {
-        return 2;
-    }
-    if check::same(text, b"hundredth") {
-        return 3;
-    }
-    if check::same(text, b"thousandth") {
-        return 4;
-    }
-    if check::same(text, b"ten") {
-        return 5;
-    }
-    if check::same(text, b"hundred") {
-        return 6;
-    }
-    if check::same(text, b"thousand") {
-        return 7;
-    }
-    if check::same(text, b"sign") {
-        return 8;
-    }
-    if check::same(text, b"none") {
-        return 9;
+// The place of a text among words between single spaces, from 1, or 0.
+fn place_among(words: &[u8], text: &[u8]) -> u64 {
+    let mut before: usize = 0;
+    let mut start = 0;
+    while start < words.len() {
+        if check::same(text, typed_parts::text_before(&words[start..], b' ')) {
+            return (before + 1) as u64;
+        }
+        before += 1;
+        start = words.len() - typed_parts::text_behind(&words[start..], b' ').len();
     }
     0
+}
+
+// The number of the reason that a text tells, or 0.
+fn reason_in(text: &[u8]) -> u64 {
+    place_among(
+        b"agrees tenth hundredth thousandth ten hundred thousand sign none",
+        text,
+    )
 }
 
 // The number of the refusal in `refused N`, or 0 and the number of the reason.
@@ -73,7 +63,7 @@ fn answer_in(text: &[u8]) -> Answer {
 fn is_line_right(line: &[u8]) -> bool {
     let after_word = typed_parts::text_behind(line, b' ');
     let figure = typed_parts::text_before(after_word, b' ');
-    let TypedWord::Word(word) = typed_words::read_word(typed_parts::text_before(line, b' ')) else {
+    let TypedWord::Word(word) = word_reader::read_word(typed_parts::text_before(line, b' ')) else {
         return false;
     };
     let Signed::Number(millionths) = test_numbers::read_signed(figure) else {

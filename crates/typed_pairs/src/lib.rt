@@ -1,8 +1,4 @@
-// What a typed line of a word and a figure is.
-use typed_figures::TypedFigure;
-use typed_words::TypedWord;
-ghost use mathlib.Core.Path.{_≡_};
-ghost use Rattle.typed_pairs.specs.Pairs.{pairOf, pairIn, lineOf};
+// What a typed line of a word and a figure is: the definitions and their laws stand in specs/.
 
 // What a typed line is.
 pub enum TypedLine {
@@ -12,49 +8,4 @@ pub enum TypedLine {
     Pair(u32, i64),
     // anything else
     Unread,
-}
-
-// The pair of a word and a figure that are both read, with nothing behind them.
-fn pair_of(word: TypedWord, figure: TypedFigure, rest: &[u8]) -> TypedLine
-    ensures { λ r. ⌜ r ≡ pairOf word figure (now (rest .entry)) ⌝ }
-{
-    let TypedWord::Word(bits) = word else {
-        return TypedLine::Unread;
-    };
-    let TypedFigure::Millionths(millionths) = figure else {
-        return TypedLine::Unread;
-    };
-    if rest.len() == 0 {
-        return TypedLine::Pair(bits, millionths);
-    }
-    TypedLine::Unread
-}
-
-// What the two parts of a text are, and nothing but blanks behind them.
-fn read_pair(text: &[u8]) -> TypedLine
-    ensures { λ r. ⌜ r ≡ pairIn (now (text .entry)) ⌝ }
-{
-    let start = typed_lines::skip_blanks(text);
-    let word = typed_words::read_word(typed_lines::first_part(start));
-    let behind = typed_lines::skip_blanks(typed_lines::behind_part(start));
-    let figure = figure_reader::read_figure(typed_lines::first_part(behind));
-    let rest = typed_lines::skip_blanks(typed_lines::behind_part(behind));
-    pair_of(word, figure, rest)
-}
-
-// What a line is, without its line break. One carriage return at its end is not part of it.
-pub fn read_line(line: &[u8]) -> TypedLine
-    ensures { λ r. ⌜ r ≡ lineOf (now (line .entry)) ⌝ }
-{
-    let content = typed_lines::without_return(line);
-    if content.len() == 0 {
-        return TypedLine::Passed;
-    }
-    if content[0] == b'#' {
-        return TypedLine::Passed;
-    }
-    if 200 < content.len() {
-        return TypedLine::Unread;
-    }
-    read_pair(content)
 }

@@ -1,23 +1,7 @@
-// A word typed in hex: exactly eight digits, of either case.
-ghost use mathlib.Core.Path.{_≡_};
-ghost use Rattle.typed_words.specs.Words.{wordOf};
+// A word typed in hex, exactly eight digits of either case: the definitions and their laws stand in specs/.
 
 // The word that a text is, or none.
 pub enum TypedWord {
     Word(u32),
     Unread,
-}
-
-// The word that a text of eight hex digits is.
-pub fn read_word(text: &[u8]) -> TypedWord
-    ensures { λ r. ⌜ r ≡ wordOf (now (text .entry)) ⌝ }
-{
-    if text.len() != 8 {
-        return TypedWord::Unread;
-    }
-    let number = typed_numbers::read_number(text, 16, 0xFFFFFFFF);
-    if number.good {
-        return TypedWord::Word(number.value as u32);
-    }
-    TypedWord::Unread
 }

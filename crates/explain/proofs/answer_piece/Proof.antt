@@ -7,7 +7,7 @@ use native.Mathlib.Omega.{arith}
 use lib.ListN.{take}
 use lib.Seq.{length-take-le}
 use Rattle.text_lines.specs.Lines.{linesOf}
-use Rattle.pages.specs.Pages.{progressOf, pageText}
+use Rattle.line_answers.specs.LineAnswers.{progressOf, answersText}
 use Rattle.explain.proofs.Parting.{whole-within, whole-part, begun-part}
 use borrow.Author.Needs.{needs}
 use Rattle.explain.proofs.answer_piece.Statement.{statement}
@@ -66,14 +66,14 @@ returns c =
     let b = start .args .buffer .now in
     let before = start .args .before in
     let lines = c .before .before .before .before .before .before .before .before .before .before .whole-lines in
-    let page = c .before .before .before .before .before .before .before .explain-whole in
+    let answered = c .before .before .before .before .before .before .before .explain-whole in
     let begun = c .before .before .before .keep-begun in
     let part = whole-part b (start .args .filled) (lines .result) (start .pre .1) (lines .ensures) in (
-      page .ensures .0,
+      answered .ensures .0,
       (
-        page .ensures .1 .0 ∙ ap (λ (l : List ℕ). pageText (before .seen) (linesOf l)) part,
+        answered .ensures .1 .0 ∙ ap (λ (l : List ℕ). answersText (before .seen) (linesOf l)) part,
         (
-          page .ensures .1 .1 ∙ ap (λ (l : List ℕ). progressOf before (linesOf l)) part,
+          answered .ensures .1 .1 ∙ ap (λ (l : List ℕ). progressOf before (linesOf l)) part,
           (
             omega (arith, begun .ensures .0),
             begun .ensures .1 ∙ ap (take 202) (begun-part b (start .args .filled) (lines .result) (start .pre .1) (lines .ensures)),

@@ -39,14 +39,14 @@ answer-piece-requires c κs =
     let more = added (read .result) _ (start .args .state .begun) b b (omega (arith, start .pre .0, start .pre .1)) refl (c .before .before .before .count .given .1) (read .ensures) in
     (omega (arith, more .1, start .pre .1), omega (arith, more .1, start .pre .1), omega (arith, start .pre .2))
 
-slice-reshare-prefix-write-page : tie.Need-slice-reshare-prefix-write-page
-slice-reshare-prefix-write-page c = search needs
+slice-reshare-prefix-write-answers : tie.Need-slice-reshare-prefix-write-answers
+slice-reshare-prefix-write-answers c = search needs
 
-slice-aggregate-write-page : tie.Need-slice-aggregate-write-page
-slice-aggregate-write-page c = search needs
+slice-aggregate-write-answers : tie.Need-slice-aggregate-write-answers
+slice-aggregate-write-answers c = search needs
 
-write-page-requires : tie.Need-write-page-requires
-write-page-requires c κs = search needs
+write-answers-requires : tie.Need-write-answers-requires
+write-answers-requires c κs = search needs
 
 enum-told : tie.Need-enum-told
 enum-told c = search needs
@@ -127,9 +127,9 @@ read-on-spec =
     enum-known-count
     add-answer-piece
     answer-piece-requires
-    slice-reshare-prefix-write-page
-    slice-aggregate-write-page
-    write-page-requires
+    slice-reshare-prefix-write-answers
+    slice-aggregate-write-answers
+    write-answers-requires
     enum-told
     slice-reshare-prefix-put-end
     slice-aggregate-put-end

@@ -17,7 +17,8 @@ use Rattle.explanations.specs.declared.Held.{Held}
 use Rattle.text.specs.Ascii.{ascii}
 use Rattle.text.specs.Writing.{named}
 use Rattle.numerals.specs.Digits.{decimal}
-use Rattle.answers.specs.Answers.{becauseText, explainedOutcome}
+use Rattle.reason_texts.specs.ReasonTexts.{becauseText}
+use Rattle.answers.specs.Answers.{explainedOutcome}
 use Rattle.answers.specs.Held.{heldText}
 use Rattle.answers.specs.declared.Outcome.{Outcome}
 use borrow.Author.Needs.{needs}

@@ -4,7 +4,7 @@ use mathlib.Core.Path.{sym, ap, _∙_}
 use mir.Facts.{toZ-ofZ}
 use Rattle.text.specs.Writing.{named, joined}
 use Rattle.numerals.specs.Digits.{signedFixed}
-use Rattle.answers.specs.Answers.{because-first, because-other}
+use Rattle.reason_texts.specs.ReasonTexts.{because-first, because-other}
 use borrow.Author.Needs.{needs}
 use Rattle.reason_texts.proofs.put_because.Statement.{statement}
 use Rattle.reason_texts.proofs.put_because.Tie as tie

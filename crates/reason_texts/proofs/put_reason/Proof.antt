@@ -2,7 +2,7 @@
 -- Assumes nothing.
 use mathlib.Core.Path.{sym, ap}
 use Rattle.text.specs.Writing.{named}
-use Rattle.answers.specs.Answers.{reasonText}
+use Rattle.reason_texts.specs.ReasonTexts.{reasonText}
 use borrow.Author.Needs.{needs}
 use Rattle.reason_texts.proofs.put_reason.Statement.{statement}
 use Rattle.reason_texts.proofs.put_reason.Tie as tie
