@@ -1,12 +1,12 @@
 -- Text into a buffer, in the manner of C's `snprintf`: what fits is stored, and all is counted.
 -- Assumes nothing.
-use mathlib.Core.Path.{_≡_, refl, sym, ap, subst, _∙_}
+use mathlib.Core.Path.{_≡_, refl, sym, ap, ap₂, subst, _∙_}
 use mathlib.Core.List.{List, [], _∷_, _++_}
 use Prim.Native.Nat.{ℕ, suc, _+_, _-_, _^_, _≤_, _<_, min}
 use native.Mathlib.Decide.{decLe}
 use native.Mathlib.Omega.{arith}
-use lib.ListN.{length, set, length-append}
-use lib.Seq.{sets, length-sets, set-out}
+use lib.ListN.{length, take, drop, set, length-append}
+use lib.Seq.{sets, length-sets, set-out, sets-eq, take-append-seam}
 
 -- the largest number of 64 bits, at which counting stops: no buffer reaches it
 abbrev pub last : ℕ
@@ -70,3 +70,12 @@ exact v h = omega (arith, v .counted)
 -- the buffer keeps its length
 pub length-kept : {a : List ℕ} {i : ℕ} {s b : List ℕ} {j : ℕ} → Writes a i s b j → length b ≡ length a
 length-kept {a} {i} {s} v = ap length (v .stored) ∙ length-sets a i s
+
+-- a text that the buffer has room for stands whole at its start, and the next place counts its bytes
+pub whole : {a s b : List ℕ} {n : ℕ} → Writes a 0 s b n → length s ≤ length a → ((n ≤ length b) × (n ≡ length (take n b))) × (take n b ≡ s)
+whole {a} {s} {b} {n} w fits =
+    let size : n ≡ length s = omega (arith, w .counted, w .length-within) in
+    let all : b ≡ s ++ drop (0 + length s) a = w .stored ∙ sets-eq s a 0 (omega arith) in
+    let first : take n b ≡ s = ap₂ (λ (k : ℕ) (l : List ℕ). take k l) size all ∙ take-append-seam s (drop (0 + length s) a) in
+    let within : length b ≡ length s + length (drop (0 + length s) a) = ap length all ∙ length-append s (drop (0 + length s) a) in
+    ((omega (arith, size, within), size ∙ ap length (sym first)), first)

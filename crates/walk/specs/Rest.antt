@@ -16,6 +16,7 @@ use Rattle.fields.specs.declared.Start.{Start}
 use Rattle.fields.specs.Start.{startOf}
 use Rattle.fields.specs.Run.{Field, Scan, Fields, Refused, _andThen_, inside, step, scan, runOf, sheetLimit, sheetOf}
 use Rattle.fields.specs.Laws.{run-step, whole-field, end-empty}
+use Rattle.fields.specs.Limits.{not-longer}
 use Rattle.fields.specs.AndThenLemmas.{nothing-first, nothing-after, regroup}
 use Rattle.walk.specs.declared.Position.{Position}
 use Rattle.walk.specs.declared.Walk.{Walk}
@@ -197,6 +198,10 @@ whole s =
     ∙ level-ended s 2 0 (depth1 s) 0 (omega arith)
     ∙ nothing-after (runOf 1 0 (take (length s) s))
     ∙ ap (runOf 1 0) (take-length s)
+
+-- From its first byte a sheet that is not too long is left, be it legal or not.
+pub first-rest : (s : List ℕ) → length s ≤ 32768 → restOf s (Walk.At atStart) ≡ sheetOf s
+first-rest s h = whole s ∙ sym (not-longer s h)
 
 -- From its start the whole sheet is left.
 pub start-rest : (s : List ℕ) → restOf s (startWalk s) ≡ sheetOf s

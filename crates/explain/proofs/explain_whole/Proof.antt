@@ -2,7 +2,7 @@
 -- Assumes nothing.
 use native.Mathlib.Omega.{arith}
 use Rattle.line_answers.specs.Lengths.{answers-length}
-use Rattle.explain.proofs.Room.{whole}
+use Rattle.text.specs.Writing.{whole}
 use borrow.Author.Needs.{needs}
 use Rattle.explain.proofs.explain_whole.Statement.{statement}
 use Rattle.explain.proofs.explain_whole.Tie as tie

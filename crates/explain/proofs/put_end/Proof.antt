@@ -3,12 +3,11 @@
 use mathlib.Core.Path.{ap}
 use mathlib.Core.List.{_++_}
 use native.Mathlib.Omega.{arith}
-use Rattle.text.specs.Writing.{joined, named}
+use Rattle.text.specs.Writing.{joined, named, whole}
 use Rattle.line_answers.specs.declared.Progress.{Progress}
 use Rattle.text_lines.specs.Lines.{linesOf}
 use Rattle.line_answers.specs.LineAnswers.{answersText, totalsText}
 use Rattle.line_answers.specs.Lengths.{Bounded, end-length}
-use Rattle.explain.proofs.Room.{whole}
 use borrow.Author.Needs.{needs}
 use Rattle.explain.proofs.put_end.Statement.{statement}
 use Rattle.explain.proofs.put_end.Tie as tie
