@@ -10,6 +10,7 @@ use flat_readings::FlatReading;
 use flat_reassembly::FlatStep;
 use flat_reassembly::Partial;
 use flat_records::FlatRecord;
+use flat_summaries::FlatSummary;
 use flat_walks::FlatWalk;
 use flat_walks::FlatWalked;
 use flat_words::FlatWord;
@@ -27,6 +28,7 @@ ghost use Rattle.notes.specs.Note.{noteOf};
 ghost use Rattle.contents.specs.Contents.{wordBytes, figureBytes, wordIn, figureIn};
 ghost use Rattle.writer.specs.Write.{writeOf, groupOf};
 ghost use Rattle.listing.specs.Listing.{textOf, listedOf, bufferOf};
+ghost use Rattle.summaries.specs.Summaries.{summarizedOf};
 ghost use Rattle.flat_contents.specs.Contents.{flatWordIn, flatFigureIn, flatNote};
 ghost use Rattle.flat_explanations.specs.Explained.{flatExplained};
 ghost use Rattle.flat_figures.specs.Printing.{printedOf};
@@ -36,6 +38,7 @@ ghost use Rattle.flat_places.specs.Places.{flatChecked, flatWritten};
 ghost use Rattle.flat_points.specs.Points.{flatPoint};
 ghost use Rattle.flat_readings.specs.Readings.{readingIn};
 ghost use Rattle.flat_records.specs.Numbers.{flatOf};
+ghost use Rattle.flat_summaries.specs.Flat.{flatSummarized};
 ghost use Rattle.flat_walks.specs.Walks.{flatWalk, stepped};
 ghost use Rattle.flat_words.specs.Words.{flatWord, encodeFlat};
 
@@ -207,4 +210,12 @@ pub extern "C" fn lampcygnet_list_sheet(sheet: &[u8], out: &mut [u8]) -> FlatLis
     ensures content { λ _. ⌜ now (out .exit) ≡ bufferOf (textOf (now (sheet .entry))) (now (out .entry)) ⌝ }
 {
     flat_listing::list_flat(sheet, out)
+}
+
+// The summary of the words of a label and a source in a sheet, or its refusal.
+#[no_mangle]
+pub extern "C" fn lampcygnet_summarize(sheet: &[u8], label: u32, source: u32) -> FlatSummary
+    ensures { λ r. ⌜ r ≡ flatSummarized (summarizedOf label source (sheetOf (now (sheet .entry)))) ⌝ }
+{
+    flat_summaries::summarize_flat(sheet, label, source)
 }

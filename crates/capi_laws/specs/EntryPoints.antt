@@ -51,6 +51,11 @@ use Rattle.writer.specs.Write as write
 use Rattle.writer.specs.declared.Written.{Written}
 use Rattle.listing.specs.Listing.{textOf, listedOf, bufferOf}
 use Rattle.listing.specs.declared.Listed.{Listed}
+use Rattle.summaries.specs.Summaries.{deviationAt, summarizedOf}
+use Rattle.summaries.specs.declared.Deviating.{Deviating}
+use Rattle.summaries.specs.declared.Deviation.{Deviation}
+use Rattle.summaries.specs.declared.Summarized.{Summarized}
+use Rattle.summaries.specs.declared.Summary.{Summary}
 use Rattle.flat_records.specs.Numbers.{flatOf}
 use Rattle.flat_records.specs.Numbers as records
 use Rattle.flat_records.specs.declared.FlatRecord.{FlatRecord}
@@ -81,6 +86,9 @@ use Rattle.flat_contents.specs.declared.FlatFigure.{FlatFigure}
 use Rattle.flat_contents.specs.declared.FlatNote.{FlatNote}
 use Rattle.flat_listing.specs.Listed.{flatListed}
 use Rattle.flat_listing.specs.declared.FlatListed.{FlatListed}
+use Rattle.flat_summaries.specs.Flat.{flatRefused, flatSummarized}
+use Rattle.flat_summaries.specs.declared.FlatSummary.{FlatSummary}
+use Rattle.capi_laws.specs.Summaries.{summaryIn, ZeroWhereNoneReady, summary-told, zeros-told}
 
 -- ---- what is stated
 
@@ -152,6 +160,11 @@ abbrev pub ofListed : Listed → Said
 ofListed (Listed.Length n) = accepts
 ofListed (Listed.Refused f) = refuses f 0
 
+abbrev pub ofSummarized : Summarized → Said
+ofSummarized (Summarized.Summary s) = accepts
+ofSummarized (Summarized.Refused f) = refuses f 0
+ofSummarized (Summarized.SheetRefused f p) = refuses f p
+
 -- ---- what the numbers of each structure tell: its field `refusal`, and zeros beside it but for the offset
 
 abbrev pub RecordTells : Said → FlatRecord → Type 0
@@ -195,6 +208,9 @@ ReasonTells = Tells (λ (n : FlatExplained). n .refusal) (λ f p. record { refus
 abbrev pub LengthTells : Said → FlatListed → Type 0
 LengthTells = Tells (λ (n : FlatListed). n .refusal) (λ f p. record { refusal = numberOf f; length = 0 })
 
+abbrev pub SummaryTells : Said → FlatSummary → Type 0
+SummaryTells = Tells (λ (n : FlatSummary). n .refusal) flatRefused
+
 -- ---- the functions that C calls
 
 pub record EntryPoints : Type 0 where
@@ -233,6 +249,11 @@ pub record EntryPoints : Type 0 where
   -- lampcygnet_list_sheet
   pub listed : (s out : List ℕ) → LengthTells (ofListed (listedOf (textOf s) out)) (flatListed (listedOf (textOf s) out))
   pub listed-untouched : (s out : List ℕ) → Untouched (ofListed (listedOf (textOf s) out)) out (bufferOf (textOf s) out)
+  -- lampcygnet_summarize: the refusal; beside the label all of a summary; and zeros where no word is ready
+  pub summarized : (label source : ℕ) (s : List ℕ) → let x = summarizedOf label source (sheetOf s) in SummaryTells (ofSummarized x) (flatSummarized x)
+  pub summary : (label source : ℕ) (s : List ℕ) (d : Deviation) (x : Summary) → deviationAt label ≡ Deviating.As d → summarizedOf label source (sheetOf s) ≡ Summarized.Summary x
+      → x ≡ summaryIn d (flatSummarized (summarizedOf label source (sheetOf s)))
+  pub none-ready : (label source : ℕ) (s : List ℕ) → ZeroWhereNoneReady (flatSummarized (summarizedOf label source (sheetOf s)))
 
 -- ---- one law for all structures
 
@@ -355,6 +376,11 @@ listed-tells : (x : Listed) → LengthTells (ofListed x) (flatListed x)
 listed-tells (Listed.Length n) = when-accepted _ _ (λ f p. refl) (flatListed (Listed.Length n)) refl
 listed-tells (Listed.Refused f) = when-refused _ _ (λ f p. refl) f 0
 
+summarized-tells : (x : Summarized) → SummaryTells (ofSummarized x) (flatSummarized x)
+summarized-tells (Summarized.Summary s) = when-accepted _ _ (λ f p. refl) (flatSummarized (Summarized.Summary s)) refl
+summarized-tells (Summarized.Refused f) = when-refused _ _ (λ f p. refl) f 0
+summarized-tells (Summarized.SheetRefused f p) = when-refused _ _ (λ f p. refl) f p
+
 -- ---- buffers
 
 answer-untouched : (x : Written) (out : List ℕ) (place : ℕ) (bytes : List ℕ) → Untouched (ofWritten x) out (write.bufferOf x out place bytes)
@@ -401,4 +427,7 @@ entry-points = record {
   group-untouched = λ out place run. group-kept (insideOf run) out place run;
   listed = λ s out. listed-tells (listedOf (textOf s) out);
   listed-untouched = λ s out. listed-kept (textOf s) out;
+  summarized = λ label source s. summarized-tells (summarizedOf label source (sheetOf s));
+  summary = λ label source s. summary-told label source (sheetOf s);
+  none-ready = λ label source s. zeros-told label source (sheetOf s);
 }

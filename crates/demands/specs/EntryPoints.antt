@@ -45,6 +45,9 @@ use Rattle.walk.specs.Step.{startWalk, stepOf}
 use Rattle.walk.specs.Walked.{after}
 use Rattle.notes.specs.Note.{noteOf}
 use Rattle.totals.specs.Totals.{totalsOf}
+use Rattle.summaries.specs.Statements.{summaryRules, summarizing}
+use Rattle.summaries.specs.Summaries.{summarizedOf}
+use Rattle.summaries.specs.Theorems as summary-theorems
 use Rattle.writer.specs.Buffer.{unchanged, group-unchanged}
 use Rattle.writer.specs.Write.{writeOf, groupOf}
 use Rattle.writer.specs.declared.Written.{Written}
@@ -90,6 +93,8 @@ pub record Demand1 : Type 0 where
   -- a note and the totals: `find_note`, `note_text`, `totals_of`
   pub note : (s : List ℕ) → Bytes s → (place : ℕ) → Follows noted (noteRules s place) (noteOf (sheetOf s) place)
   pub totals : (s : List ℕ) → Bytes s → Follows counted (sheetRules s) (totalsOf (sheetOf s))
+  -- the summary of a label and a source in a sheet: `summarize`
+  pub summary : (label source : ℕ) (s : List ℕ) → Bytes s → Follows summarizing (summaryRules label source s) (summarizedOf label source (sheetOf s))
   -- one field into a buffer: `write_word`, `write_figure`, `write_note`
   pub write : (out : List ℕ) (place : ℕ) (k : FieldKind) (c : List ℕ) → Follows written (writeRules (length out) place (length c)) (writeOf out place k c .answer)
   pub write-untouched : (out : List ℕ) (place : ℕ) (k : FieldKind) (c : List ℕ) (f : Refusal) (p : ℕ) → writeOf out place k c .answer ≡ Written.Refused f p → writeOf out place k c .buffer ≡ out
@@ -130,6 +135,7 @@ demand1 = record {
   walk = walk-follows;
   note = note-follows;
   totals = totals-follow;
+  summary = summary-theorems.follows;
   write = λ out place k c. write-follows (length out) place (length c);
   write-untouched = unchanged;
   group = group-follows;

@@ -1,0 +1,1 @@
+// The text of a summary: the definitions and their laws stand in specs/.
