@@ -33,11 +33,12 @@ check:
 	rt check
 	@$(MAKE) --no-print-directory test-model test-c test-rust test-programs test-install
 
-# The programs that are installed: target/bin/list, target/bin/list_fields and target/bin/explain.
+# The programs that are installed: target/bin/list, target/bin/list_fields, target/bin/explain and target/bin/summary.
 programs:
 	rt check list
 	rt check list_fields
 	rt check explain
+	rt check summary
 
 # The static library that include/lampcygnet.h describes: target/staticlib/libcapi.a.
 library:
@@ -46,13 +47,13 @@ library:
 # The C tests, as C99 and as C++11, on the test vectors.
 test-c: library
 	tests/c/run words crates/test_words/data/words.txt crates/test_figures/data/figures.txt crates/test_reassembly/data/joins.txt crates/test_explain/data/explain.txt
-	tests/c/run sheets crates/test_sheets/data/*/*.bin
+	tests/c/run sheets crates/test_sheets/data/*/*.bin crates/test_summary/data/summary.txt
 
 # The independent model on the test vectors and on document 01's lines.
 test-model:
 	cd bindings/model && cargo test --offline --quiet
 
-# The Rust crate: its examples, and the library beside the model on all words of every label, on figures and their explanations, on runs of parts and on sheets.
+# The Rust crate: its examples, and the library beside the model on all words of every label, on figures and their explanations, on runs of parts, on sheets and on their summaries.
 test-rust: library
 	cd bindings/rust && cargo test --offline --quiet
 
@@ -75,12 +76,14 @@ install-files:
 	install -m 755 target/bin/list "$(DESTDIR)$(PREFIX)/bin/lampcygnet-list"
 	install -m 755 target/bin/list_fields "$(DESTDIR)$(PREFIX)/bin/lampcygnet-fields"
 	install -m 755 target/bin/explain "$(DESTDIR)$(PREFIX)/bin/lampcygnet-explain"
+	install -m 755 target/bin/summary "$(DESTDIR)$(PREFIX)/bin/lampcygnet-summary"
 	install -m 644 include/lampcygnet.h "$(DESTDIR)$(PREFIX)/include/lampcygnet.h"
 	install -m 644 target/staticlib/libcapi.a "$(DESTDIR)$(PREFIX)/lib/liblampcygnet.a"
 	$(call filled,lampcygnet.pc.in,lib/pkgconfig/lampcygnet.pc)
 	$(call filled,man/lampcygnet-list.1,share/man/man1/lampcygnet-list.1)
 	$(call filled,man/lampcygnet-fields.1,share/man/man1/lampcygnet-fields.1)
 	$(call filled,man/lampcygnet-explain.1,share/man/man1/lampcygnet-explain.1)
+	$(call filled,man/lampcygnet-summary.1,share/man/man1/lampcygnet-summary.1)
 	$(call filled,man/lampcygnet.3,share/man/man3/lampcygnet.3)
 	$(call filled,man/lampcygnet-sheet.5,share/man/man5/lampcygnet-sheet.5)
 
@@ -89,10 +92,10 @@ filled = sed -e 's|@PREFIX@|$(PREFIX)|' -e 's|@VERSION@|$(VERSION)|' $(1) > "$(D
 
 # Takes away the files that `install` puts there.
 uninstall:
-	for file in bin/lampcygnet-list bin/lampcygnet-fields bin/lampcygnet-explain include/lampcygnet.h lib/liblampcygnet.a lib/pkgconfig/lampcygnet.pc \
-		share/man/man1/lampcygnet-list.1 share/man/man1/lampcygnet-fields.1 share/man/man1/lampcygnet-explain.1 share/man/man3/lampcygnet.3 share/man/man5/lampcygnet-sheet.5; do rm -f "$(DESTDIR)$(PREFIX)/$$file"; done
+	for file in bin/lampcygnet-list bin/lampcygnet-fields bin/lampcygnet-explain bin/lampcygnet-summary include/lampcygnet.h lib/liblampcygnet.a lib/pkgconfig/lampcygnet.pc \
+		share/man/man1/lampcygnet-list.1 share/man/man1/lampcygnet-fields.1 share/man/man1/lampcygnet-explain.1 share/man/man1/lampcygnet-summary.1 share/man/man3/lampcygnet.3 share/man/man5/lampcygnet-sheet.5; do rm -f "$(DESTDIR)$(PREFIX)/$$file"; done
 
-# The programs where an input cannot be read, an output cannot be written, an argument is given or a sheet is too long; and beside the model, on sheets and on typed lines.
+# The programs where an input cannot be read, an output cannot be written, an argument is wrong or a sheet is too long; and beside the model, on sheets and on typed lines.
 test-programs: programs
 	tests/programs/run
 

@@ -21,6 +21,18 @@ struct baseline_record {
     int32_t value;
 };
 
+/* The words of a sheet for one label and source: theirs by status, the refused ones, those of other labels or sources, all; and
+   over the ready ones the least and greatest count, 0 where there is none, and the sum of counts. */
+struct baseline_summary {
+    uint32_t by_status[4];
+    uint32_t refused;
+    uint32_t other;
+    uint32_t words;
+    int32_t least;
+    int32_t greatest;
+    int64_t sum;
+};
+
 /* Each gives 0 or the refusal number; after a refusal nothing but an offset is written. */
 int baseline_decode(uint32_t word, struct baseline_record *record);
 int baseline_code(uint8_t label, uint8_t source, int64_t millionths, uint32_t *word);
@@ -30,6 +42,9 @@ int baseline_explain(uint32_t word, int64_t millionths, uint8_t *reason);
 int baseline_check(const uint8_t *sheet, size_t length, size_t *offset);
 /* 13 if the text is longer than the room. A refused sheet has its line as text, and the answer is 0. */
 int baseline_list(const uint8_t *sheet, size_t length, char *text, size_t room, size_t *used);
+/* The offset is 0 but for the sheet's own refusal. */
+int baseline_summarize(const uint8_t *sheet, size_t length, uint8_t label, uint8_t source, struct baseline_summary *summary,
+                       size_t *offset);
 /* A page of words: a record and an answer for each; the record of a refused word is left as it was. */
 void baseline_decode_page(const uint32_t *words, size_t length, struct baseline_record *records, uint8_t *answers);
 

@@ -357,6 +357,28 @@ struct lampcygnet_listed {
  */
 struct lampcygnet_listed lampcygnet_list_sheet(const uint8_t *sheet, size_t length, uint8_t *out, size_t room);
 
+/* The words of a sheet, at every depth, summed up for one label and source. */
+struct lampcygnet_summary {
+    uint8_t refusal;  /* enum lampcygnet_refusal */
+    size_t offset;    /* that of the sheet's refusal; 0 beside 2 and 4, and where nothing is refused */
+    uint64_t ready;   /* accepted words of the label and source that are ready */
+    uint64_t test;    /* those under test */
+    uint64_t nodata;  /* those with no data */
+    uint64_t failure; /* those under failure */
+    uint64_t refused; /* refused words, of any label */
+    uint64_t other;   /* accepted words of other labels or sources */
+    uint64_t words;   /* all words: the six numbers before this one add up to it */
+    int16_t least;    /* the least count of the ready ones; 0 where `ready` is 0 */
+    int16_t greatest; /* their greatest count; 0 where `ready` is 0 */
+    int64_t sum;      /* the sum of their counts; the mean is sum / ready, and there is none where `ready` is 0 */
+};
+
+/*
+ * The summary of a sheet for a label (a number, 0173 in C) and a source. Refused 2 unless the label is 173, 174, 151 or 152, then 4 where the source is
+ * above 3, then as the sheet is, 9 to 12 and 15, with its offset.
+ */
+struct lampcygnet_summary lampcygnet_summarize(const uint8_t *sheet, size_t length, uint32_t label, uint32_t source);
+
 #ifdef __cplusplus
 }
 #endif

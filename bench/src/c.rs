@@ -13,6 +13,19 @@ pub struct Record {
     pub value: i32,
 }
 
+/// `struct baseline_summary`: by status failure, nodata, test and ready.
+#[repr(C)]
+#[derive(Clone, Copy, Debug, Default, PartialEq, Eq)]
+pub struct Summary {
+    pub by_status: [u32; 4],
+    pub refused: u32,
+    pub other: u32,
+    pub words: u32,
+    pub least: i32,
+    pub greatest: i32,
+    pub sum: i64,
+}
+
 /// The room that a listing needs.
 pub const TEXT_MAX: usize = 117_046;
 
@@ -22,6 +35,14 @@ extern "C" {
     fn baseline_explain(word: u32, millionths: i64, reason: *mut u8) -> i32;
     fn baseline_check(sheet: *const u8, length: usize, offset: *mut usize) -> i32;
     fn baseline_list(sheet: *const u8, length: usize, text: *mut u8, room: usize, used: *mut usize) -> i32;
+    fn baseline_summarize(
+        sheet: *const u8,
+        length: usize,
+        label: u8,
+        source: u8,
+        summary: *mut Summary,
+        offset: *mut usize,
+    ) -> i32;
     fn baseline_decode_page(words: *const u32, length: usize, records: *mut Record, answers: *mut u8);
 }
 
@@ -73,6 +94,16 @@ pub fn list(sheet: &[u8], text: &mut [u8]) -> Result<usize, u8> {
     match unsafe { baseline_list(sheet.as_ptr(), sheet.len(), text.as_mut_ptr(), text.len(), &mut used) } {
         0 => Ok(used),
         refusal => Err(refusal as u8),
+    }
+}
+
+/// The summary of a sheet for a label and a source.
+pub fn summarize(sheet: &[u8], label: u8, source: u8) -> Result<Summary, (u8, usize)> {
+    let (mut summary, mut offset) = (Summary::default(), 0);
+    // SAFETY: pointer and length are those of the slice; one summary and one offset are written.
+    match unsafe { baseline_summarize(sheet.as_ptr(), sheet.len(), label, source, &mut summary, &mut offset) } {
+        0 => Ok(summary),
+        refusal => Err((refusal as u8, offset)),
     }
 }
 

@@ -7,7 +7,7 @@ mod ffi;
 // Links the library.
 use lampcygnet as _;
 
-pub use ffi::Record;
+pub use ffi::{Record, Summary};
 
 /// The room that a listing needs.
 pub const TEXT_MAX: usize = lampcygnet::sheet::LISTING_MOST;
@@ -58,5 +58,15 @@ pub fn list(sheet: &[u8], text: &mut [u8]) -> Result<usize, u8> {
     match listed.refusal {
         0 => Ok(listed.length),
         refusal => Err(refusal),
+    }
+}
+
+/// The summary of a sheet for a label and a source.
+pub fn summarize(sheet: &[u8], label: u8, source: u8) -> Result<Summary, (u8, usize)> {
+    // SAFETY: pointer and length are those of the slice.
+    let summary = unsafe { ffi::lampcygnet_summarize(sheet.as_ptr(), sheet.len(), label.into(), source.into()) };
+    match summary.refusal {
+        0 => Ok(summary),
+        refusal => Err((refusal, summary.offset)),
     }
 }

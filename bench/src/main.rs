@@ -10,6 +10,9 @@ use std::time::Instant;
 const RUNS: usize = 15;
 const ITEMS: usize = 1_000_000;
 
+/// The label and source for which a sheet is summed up.
+const CHOICE: (u8, u8) = (0o173, 1);
+
 type Figure = (u8, u8, i64);
 type Explained = (u32, i64);
 
@@ -21,6 +24,7 @@ struct Contestant {
     explain: fn(&[Explained]) -> u64,
     check: fn(&[u8]) -> u64,
     list: fn(&[u8], &mut Texts) -> u64,
+    summarize: fn(&[u8]) -> u64,
 }
 
 /// Where a listing is written: a buffer that takes any, or a vector that grows.
@@ -37,6 +41,12 @@ const CONTESTANTS: [Contestant; 4] = [
         explain: |explained| explain_all(explained, library::explain),
         check: |sheet| checked(library::check(sheet)),
         list: |sheet, texts| listed(library::list(sheet, &mut texts.fixed)),
+        summarize: |sheet| {
+            summed_up(library::summarize(sheet, CHOICE.0, CHOICE.1), |s| {
+                let numbers = [s.ready, s.test, s.nodata, s.failure, s.refused, s.other, s.words];
+                (numbers, i64::from(s.least), i64::from(s.greatest), s.sum)
+            })
+        },
     },
     Contestant {
         name: "C",
@@ -45,6 +55,13 @@ const CONTESTANTS: [Contestant; 4] = [
         explain: |explained| explain_all(explained, c::explain),
         check: |sheet| checked(c::check(sheet)),
         list: |sheet, texts| listed(c::list(sheet, &mut texts.fixed)),
+        summarize: |sheet| {
+            summed_up(c::summarize(sheet, CHOICE.0, CHOICE.1), |s| {
+                let [failure, nodata, test, ready] = s.by_status;
+                let numbers = [ready, test, nodata, failure, s.refused, s.other, s.words].map(u64::from);
+                (numbers, i64::from(s.least), i64::from(s.greatest), s.sum)
+            })
+        },
     },
     Contestant {
         name: "Rust",
@@ -60,6 +77,13 @@ const CONTESTANTS: [Contestant; 4] = [
             texts.grown.clear();
             rust::list(sheet, &mut texts.grown);
             texts.grown.len() as u64
+        },
+        summarize: |sheet| {
+            summed_up(rust::summarize(sheet, CHOICE.0, CHOICE.1), |s| {
+                let numbers = [s.ready, s.test, s.nodata, s.failure, s.refused, s.other, s.words].map(u64::from);
+                let (least, greatest) = s.range.unwrap_or_default();
+                (numbers, i64::from(least), i64::from(greatest), s.sum)
+            })
         },
     },
     Contestant {
@@ -83,6 +107,14 @@ const CONTESTANTS: [Contestant; 4] = [
         },
         check: |sheet| checked(Sheet::new(sheet).map(|_| ()).map_err(|r| (r.refusal.number(), r.offset))),
         list: |sheet, texts| listed(sheet::list_into(sheet, &mut texts.fixed).map_err(|refusal| refusal.number())),
+        summarize: |sheet| {
+            let summary = sheet::summarize(sheet, CHOICE.0, CHOICE.1);
+            summed_up(summary.map_err(|r| (r.refusal.number(), r.offset)), |s| {
+                let numbers = [s.ready, s.test, s.nodata, s.failure, s.refused, s.other, s.words];
+                let (least, greatest) = s.range.map_or((0, 0), |range| range.counts());
+                (numbers, i64::from(least), i64::from(greatest), s.sum)
+            })
+        },
     },
 ];
 
@@ -109,6 +141,20 @@ fn checked(answer: Result<(), (u8, usize)>) -> u64 {
 
 fn listed(answer: Result<usize, u8>) -> u64 {
     answer.map_or_else(u64::from, |length| length as u64)
+}
+
+/// The numbers of a summary in the header's order, what is not there as 0.
+type Numbers = ([u64; 7], i64, i64, i64);
+
+#[inline(always)]
+fn summed_up<T>(answer: Result<T, (u8, usize)>, numbers: impl Fn(T) -> Numbers) -> u64 {
+    match answer.map(numbers) {
+        Ok((numbers, least, greatest, sum)) => {
+            let all = numbers.into_iter().chain([least, greatest, sum].map(|number| number as u64));
+            all.fold(0, |answer: u64, number| answer.wrapping_mul(0x100_0000_01B3) ^ number)
+        }
+        Err((refusal, offset)) => (u64::from(refusal) << 32) + offset as u64,
+    }
 }
 
 /// The least time of each contestant for one item, in nanoseconds, over inputs that have so many items together. Each input is
@@ -193,4 +239,6 @@ fn main() {
     let full = sheets.last().map(|sheets| described(&sheets[0], &mut texts)).unwrap_or_default();
     heading(&format!("The listing of a sheet, ns a byte (32 KiB have {full}):"));
     rows_by_size(&sheets, |who, sheet| (who.list)(sheet, &mut texts));
+    heading(&format!("The summary of a sheet for label {:03o} and source {}, ns a byte:", CHOICE.0, CHOICE.1));
+    rows_by_size(&sheets, |who, sheet| (who.summarize)(sheet));
 }

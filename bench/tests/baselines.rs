@@ -1,10 +1,10 @@
 //! Both baselines against the model on random inputs.
 
-use bench::{c, input, rust};
+use bench::{c, input, library, rust};
 use model::compare::{self, Subject};
 use model::generate::{self, Random};
 use model::word::{Body, Record};
-use model::{figure, sheet};
+use model::{figure, sheet, summary, Summary};
 
 /// A word's record out of its plain numbers.
 fn record(label: u8, source: u8, status: u8, code: u8, value: i64) -> Record {
@@ -35,6 +35,19 @@ fn with_fields(sheet: &[u8], checked: Result<(), (u8, usize)>) -> Result<Vec<she
     checked.map(|()| sheet::check(sheet).unwrap_or_default())
 }
 
+/// The refusal of a summary: its own two have no offset.
+fn summary_refusal((number, offset): (u8, usize)) -> summary::Refusal {
+    (number, (number > 4).then_some(offset))
+}
+
+/// The model's summary out of plain numbers in the header's order.
+fn summary_of(numbers: [u64; 7], range: Option<(i64, i64)>, sum: i64) -> Summary {
+    let [ready, test, nodata, failure, refused, other, words] = numbers.map(|number| number as usize);
+    let (least, greatest) = range.unzip();
+    let mean = range.map(|_| (sum, ready));
+    Summary { ready, test, nodata, failure, refused, other, words, least, greatest, sum, mean }
+}
+
 struct C;
 
 impl Subject for C {
@@ -58,6 +71,13 @@ impl Subject for C {
     }
     fn list_into(&self, sheet: &[u8], buffer: &mut [u8]) -> Result<usize, u8> {
         c::list(sheet, buffer)
+    }
+    fn summarize(&self, sheet: &[u8], label: u8, source: u8) -> Result<Summary, summary::Refusal> {
+        let s = c::summarize(sheet, label, source).map_err(summary_refusal)?;
+        let [failure, nodata, test, ready] = s.by_status;
+        assert!(ready > 0 || (s.least, s.greatest) == (0, 0));
+        let numbers = [ready, test, nodata, failure, s.refused, s.other, s.words].map(u64::from);
+        Ok(summary_of(numbers, (ready > 0).then_some((s.least.into(), s.greatest.into())), s.sum))
     }
 }
 
@@ -98,6 +118,11 @@ impl Subject for Rust {
         let mut text = Vec::new();
         rust::list(sheet, &mut text);
         String::from_utf8(text).unwrap()
+    }
+    fn summarize(&self, sheet: &[u8], label: u8, source: u8) -> Result<Summary, summary::Refusal> {
+        let s = rust::summarize(sheet, label, source).map_err(summary_refusal)?;
+        let numbers = [s.ready, s.test, s.nodata, s.failure, s.refused, s.other, s.words].map(u64::from);
+        Ok(summary_of(numbers, s.range.map(|(least, greatest)| (least.into(), greatest.into())), s.sum))
     }
 }
 
@@ -209,6 +234,37 @@ fn timed_sheets() {
         if size == 32_768 {
             assert!(lines("figure agrees") > 200 && lines("figure differs") > 20 && lines("figure unmatched") > 20);
             assert!(lines("refused") > 20 && lines("refused") < 120, "{}", lines("refused"));
+        }
+    }
+}
+
+/// Sheets of every sort summed up, and the fullest ones.
+#[test]
+fn random_summaries() {
+    each(|subject| {
+        let mut random = Random::from_environment("summaries", 18);
+        (0..40_000).try_for_each(|_| compare::random_summary(subject, &mut random))?;
+        let fullest = summary::LABELS.iter().flat_map(|&label| [false, true].map(|least| (label, least)));
+        let mut fullest = fullest.map(|(label, least)| generate::fullest_sheet(label, 1, least));
+        fullest.try_for_each(|sheet| compare::summaries(subject, &sheet))
+    });
+}
+
+/// The sheets that are timed, summed up for every label and source: the C, the Rust and the library give the model's numbers.
+#[test]
+fn timed_summaries() {
+    let mut random = input::Random::new(19);
+    let words = input::receiver_words(&mut random, 5000);
+    for size in [3, 1024, 8192, 32_768] {
+        let sheet = input::sheet(&mut random, &words, size);
+        each(|subject| compare::summaries(subject, &sheet));
+        for (label, source) in summary::LABELS.iter().flat_map(|&label| (0..4).map(move |source| (label, source))) {
+            let s = library::summarize(&sheet, label, source).unwrap();
+            let numbers = [s.ready, s.test, s.nodata, s.failure, s.refused, s.other, s.words];
+            let range = (s.ready > 0).then_some((s.least.into(), s.greatest.into()));
+            let theirs = summary_of(numbers, range, s.sum);
+            assert_eq!(C.summarize(&sheet, label, source), Ok(theirs));
+            assert!(size < 32_768 || (s.ready > 5 && s.other > 1000 && s.refused > 20), "{s:?}");
         }
     }
 }

@@ -1,7 +1,8 @@
 /*
- * The sheet part of the library, called from C and from C++: the layout of its structures, refusals with their offsets, the writers, walks from any
- * numbers, and the sheets that are named on the command line (NAME.bin), each with its listing beside it (NAME.txt). A sheet is checked, walked,
- * asked for its notes, written again from its fields and listed. In a folder `faulty` the text is not the listing.
+ * The sheet part of the library, called from C and from C++: the layout of its structures, refusals with their offsets, the writers, summaries, walks
+ * from any numbers, and the sheets that are named on the command line (NAME.bin), each with its listing beside it (NAME.txt). A sheet is checked, walked,
+ * asked for its notes, written again from its fields, listed and summed up. In a folder `faulty` the text is not the listing. A file that is named
+ * itself by its .txt has test vectors of summaries, line by line.
  */
 #include "expect.h"
 #include "lampcygnet.h"
@@ -35,6 +36,13 @@ static void test_layout(void)
     EXPECT(offsetof(struct lampcygnet_figure, millionths) == 8);
     EXPECT(sizeof(struct lampcygnet_listed) == 16);
     EXPECT(offsetof(struct lampcygnet_listed, length) == 8);
+    EXPECT(sizeof(struct lampcygnet_summary) == 88);
+    EXPECT(offsetof(struct lampcygnet_summary, offset) == 8);
+    EXPECT(offsetof(struct lampcygnet_summary, ready) == 16);
+    EXPECT(offsetof(struct lampcygnet_summary, words) == 64);
+    EXPECT(offsetof(struct lampcygnet_summary, least) == 72);
+    EXPECT(offsetof(struct lampcygnet_summary, greatest) == 74);
+    EXPECT(offsetof(struct lampcygnet_summary, sum) == 80);
 }
 
 /* Bytes of a size of their own, so that a read past them can be seen. */
@@ -267,6 +275,89 @@ static void test_listing(const uint8_t *sheet, size_t length, const char *text, 
     expect_listing(sheet, length, text, size, LAMPCYGNET_LISTING_MOST);
 }
 
+/* ---- Summaries ---- */
+
+static int are_same_summaries(struct lampcygnet_summary a, struct lampcygnet_summary b)
+{
+    return a.refusal == b.refusal && a.offset == b.offset && a.ready == b.ready && a.test == b.test && a.nodata == b.nodata && a.failure == b.failure
+        && a.refused == b.refused && a.other == b.other && a.words == b.words && a.least == b.least && a.greatest == b.greatest && a.sum == b.sum;
+}
+
+/* All 0 but the refusal and its offset. */
+static struct lampcygnet_summary no_summary(uint8_t refusal, size_t offset)
+{
+    struct lampcygnet_summary s;
+    memset(&s, 0, sizeof s);
+    s.refusal = refusal;
+    s.offset = offset;
+    return s;
+}
+
+/* The kind of the words that are summed up under a label, or 0. */
+static uint8_t deviation(uint32_t label)
+{
+    switch (label) {
+    case 0173: return LAMPCYGNET_KIND_ILS_COURSE;
+    case 0174: return LAMPCYGNET_KIND_ILS_GLIDE;
+    case 0151: return LAMPCYGNET_KIND_MLS_AZIMUTH_DEVIATION;
+    case 0152: return LAMPCYGNET_KIND_MLS_GLIDE_DEVIATION;
+    default: return LAMPCYGNET_KIND_NONE;
+    }
+}
+
+/* The fields that were found, summed up here once more. */
+static struct lampcygnet_summary sum_up(const uint8_t *sheet, uint8_t kind, uint32_t source)
+{
+    struct lampcygnet_summary s = no_summary(0, 0);
+    size_t i;
+    for (i = 0; i < found_count; i++) {
+        if (found[i].tag == LAMPCYGNET_TAG_WORD) {
+            struct lampcygnet_record r = lampcygnet_decode(lampcygnet_word_in(sheet + found[i].place + 3, found[i].length).word);
+            s.words++;
+            if (r.refusal != 0) {
+                s.refused++;
+            } else if (r.kind != kind || r.source != source) {
+                s.other++;
+            } else if (r.status == LAMPCYGNET_STATUS_READY) {
+                s.least = s.ready == 0 || r.count < s.least ? r.count : s.least;
+                s.greatest = s.ready == 0 || s.greatest < r.count ? r.count : s.greatest;
+                s.sum += r.count;
+                s.ready++;
+            } else {
+                s.test += r.status == LAMPCYGNET_STATUS_TEST;
+                s.nodata += r.status == LAMPCYGNET_STATUS_NODATA;
+                s.failure += r.status == LAMPCYGNET_STATUS_FAILURE;
+            }
+        }
+    }
+    return s;
+}
+
+/* 2 before 4 before the sheet's own refusal. A legal sheet, with 0 here, has the numbers of its fields. */
+static void test_summary(const uint8_t *sheet, size_t length, uint8_t refusal, size_t offset)
+{
+    static const uint32_t labels[14] = {0173, 0174, 0151, 0152, 0222, 0, 0153, 0150, 0172, 0175, 0377, 0173 + 256, 0152 + 65536, UINT32_MAX};
+    static const uint32_t sources[8] = {0, 1, 2, 3, 4, 255, 256, UINT32_MAX};
+    size_t i;
+    size_t j;
+    for (i = 0; i < sizeof labels / sizeof labels[0]; i++) {
+        for (j = 0; j < sizeof sources / sizeof sources[0]; j++) {
+            uint8_t kind = deviation(labels[i]);
+            struct lampcygnet_summary s = lampcygnet_summarize(sheet, length, labels[i], sources[j]);
+            if (kind == LAMPCYGNET_KIND_NONE) {
+                EXPECT(are_same_summaries(s, no_summary(LAMPCYGNET_REFUSED_LABEL, 0)));
+            } else if (3 < sources[j]) {
+                EXPECT(are_same_summaries(s, no_summary(LAMPCYGNET_REFUSED_CODE, 0)));
+            } else if (refusal != 0) {
+                EXPECT(are_same_summaries(s, no_summary(refusal, offset)));
+            } else {
+                EXPECT(are_same_summaries(s, sum_up(sheet, kind, sources[j])));
+                EXPECT(s.ready + s.test + s.nodata + s.failure + s.refused + s.other == s.words);
+            }
+        }
+    }
+}
+
 /* ---- A sheet with its listing ---- */
 
 /* A refused sheet has this refusal everywhere, and no field. */
@@ -281,6 +372,7 @@ static void test_refused(const uint8_t *sheet, size_t length, uint8_t refusal, s
     EXPECT(are_same_walks(step.next, walk));
     expect_note(sheet, length, 0, refusal, offset, 0);
     expect_note(sheet, length, length, refusal, offset, 0);
+    test_summary(sheet, length, refusal, offset);
 }
 
 static void test_legal(const uint8_t *sheet, size_t length)
@@ -291,6 +383,7 @@ static void test_legal(const uint8_t *sheet, size_t length)
     test_walk(sheet, length);
     test_notes(sheet, length);
     test_rewriting(sheet, length);
+    test_summary(sheet, length, 0, 0);
 }
 
 static void test_sheet(const uint8_t *sheet, size_t length, const char *text, size_t size)
@@ -360,6 +453,75 @@ static void run_file(const char *path)
     about = "";
 }
 
+/* ---- Test vectors of summaries ---- */
+
+static uint8_t hex_digit(char c)
+{
+    return (uint8_t)(c <= '9' ? c - '0' : (c | 32) - 'a' + 10);
+}
+
+/* The answer as a line has it: `refused` and its number, with the offset that a sheet's own has; or the numbers, `-` for what is not there. */
+static void summary_text(char *out, struct lampcygnet_summary s)
+{
+    if (s.refusal != 0) {
+        out += sprintf(out, "refused %u", (unsigned)s.refusal);
+        if (LAMPCYGNET_REFUSED_CODE < s.refusal) {
+            sprintf(out, " %lu", (unsigned long)s.offset);
+        }
+        return;
+    }
+    out += sprintf(out, "ready=%lu test=%lu nodata=%lu failure=%lu refused=%lu others=%lu words=%lu ", (unsigned long)s.ready, (unsigned long)s.test,
+        (unsigned long)s.nodata, (unsigned long)s.failure, (unsigned long)s.refused, (unsigned long)s.other, (unsigned long)s.words);
+    if (s.ready == 0) {
+        sprintf(out, "least=- greatest=- sum=%ld mean=-", (long)s.sum);
+    } else {
+        sprintf(out, "least=%d greatest=%d sum=%ld mean=%ld/%lu", s.least, s.greatest, (long)s.sum, (long)s.sum, (unsigned long)s.ready);
+    }
+}
+
+/* A sheet in hexadecimal digits (`-`: empty), a label in octal, a source, and the answer. */
+static void summary_line(const char *text, long line)
+{
+    size_t digits = strcspn(text, " ");
+    size_t length = digits / 2;
+    size_t i;
+    uint8_t *sheet = bytes_of(length);
+    unsigned label;
+    unsigned source;
+    int n = 0;
+    char answer[400];
+    for (i = 0; i < length; i++) {
+        sheet[i] = (uint8_t)(hex_digit(text[2 * i]) << 4 | hex_digit(text[2 * i + 1]));
+    }
+    if (sscanf(text + digits, "%o %u %n", &label, &source, &n) != 2) {
+        expect(0, "a line that cannot be read", line);
+    } else {
+        struct lampcygnet_summary s = lampcygnet_summarize(sheet, length, label, source);
+        summary_text(answer, s);
+        expect(strcmp(answer, text + digits + n) == 0, answer, line);
+        expect(s.refusal == 0 || are_same_summaries(s, no_summary(s.refusal, s.offset)), "a refusal beside numbers", line);
+    }
+    free(sheet);
+}
+
+static void run_summaries(const char *path)
+{
+    size_t size;
+    char *text = (char *)read_file(path, &size);
+    char *at = text;
+    char *end;
+    long line = 0;
+    about = path;
+    for (; (end = strchr(at, '\n')) != NULL; at = end + 1) {
+        *end = 0;
+        summary_line(at, ++line);
+    }
+    EXPECT(0 < line && *at == 0);
+    printf("%ld summaries\n", line);
+    free(text);
+    about = "";
+}
+
 /* ---- Small sheets ---- */
 
 struct refused_sheet {
@@ -425,6 +587,47 @@ static void test_contents(void)
             EXPECT(f.refusal == LAMPCYGNET_REFUSED_LENGTH && f.label == 0 && f.millionths == 0);
         }
     }
+}
+
+/* A flight summed up by hand: words at every depth, and one in a note, which does not count. */
+static void test_flight(void)
+{
+    static const uint8_t sheet[] = {
+        0x10, 0, 4, 0xE4, 0, 0x01, 0xDE,                                     /* 173 1 ready 1024 */
+        0x11, 0, 9, 0x7B, 0, 0, 0, 0, 0, 0x01, 0x86, 0xA0,                   /* its figure */
+        0x20, 0, 45, 0x10, 0, 4, 0x70, 0, 0x05, 0xDE,                        /* 173 1 ready -4096, inhibited */
+        0x20, 0, 28, 0x20, 0, 14, 0x10, 0, 4, 0x6F, 0xFF, 0x01, 0xDE,        /* 173 1 ready 4095, at depth 4 */
+        0x10, 0, 4, 0x50, 0, 0x01, 0xDE,                                     /* 173 1 test -4096 */
+        0x12, 0, 8, 0x10, 0, 4, 0xE4, 0, 0x01, 0xDE, 0x20,                   /* a note */
+        0x10, 0, 4, 0xAF, 0xFF, 0x01, 0xDE,                                  /* 173 1 nodata 4095 */
+        0x10, 0, 4, 0x90, 0, 0x01, 0xDE,                                     /* 173 1 failure -4096 */
+        0x10, 0, 4, 0x6F, 0xFF, 0x01, 0xDF,                                  /* refused 1 */
+        0x10, 0, 4, 0x64, 0, 0, 0xDE,                                        /* 173 0 ready 1024 */
+        0x10, 0, 4, 0x64, 0, 0x01, 0x3E,                                     /* 174 1 */
+        0x10, 0, 4, 0x70, 0, 0x05, 0xDE                                      /* 173 1 ready -4096, inhibited */
+    };
+    struct lampcygnet_summary s = no_summary(0, 0);
+    test_legal(sheet, sizeof sheet);
+    s.ready = 4;
+    s.test = 1;
+    s.nodata = 1;
+    s.failure = 1;
+    s.refused = 1;
+    s.other = 2;
+    s.words = 10;
+    s.least = -4096;
+    s.greatest = 4095;
+    s.sum = -3073;
+    EXPECT(are_same_summaries(lampcygnet_summarize(sheet, sizeof sheet, 0173, 1), s));
+    /* no word of that label and source */
+    s = no_summary(0, 0);
+    s.refused = 1;
+    s.other = 9;
+    s.words = 10;
+    EXPECT(are_same_summaries(lampcygnet_summarize(sheet, sizeof sheet, 0151, 1), s));
+    EXPECT(are_same_summaries(lampcygnet_summarize(sheet, sizeof sheet, 0173, 2), s));
+    /* one byte less: the last word is cut */
+    test_summary(sheet, sizeof sheet - 1, LAMPCYGNET_REFUSED_TRUNCATED, sizeof sheet - 7);
 }
 
 /* ---- The writers ---- */
@@ -586,16 +789,24 @@ static void test_any_walks(void)
 
 int main(int argc, char **argv)
 {
+    int sheets = 0;
     int i;
     test_layout();
     test_refusals();
     test_contents();
+    test_flight();
     test_writers();
     test_null();
     test_any_walks();
     for (i = 1; i < argc; i++) {
-        run_file(argv[i]);
+        size_t n = strlen(argv[i]);
+        if (4 <= n && strcmp(argv[i] + n - 4, ".txt") == 0) {
+            run_summaries(argv[i]);
+        } else {
+            run_file(argv[i]);
+            sheets++;
+        }
     }
-    printf("%d sheets\n", argc - 1);
+    printf("%d sheets\n", sheets);
     return told();
 }

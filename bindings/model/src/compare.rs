@@ -9,6 +9,7 @@ use crate::listing;
 use crate::reading::{self, Reading, Value};
 use crate::reassembly::{self, Answer, Partial};
 use crate::sheet::{self, Content, Field, Refusal, WriteRefusal, LIMIT};
+use crate::summary::{self, Summary};
 use crate::word::{self, Record};
 
 /// The functions that can be compared.
@@ -60,6 +61,9 @@ pub trait Subject: Sync {
     }
     fn list_into(&self, sheet: &[u8], buffer: &mut [u8]) -> Result<usize, u8> {
         listing::list_into(sheet, buffer)
+    }
+    fn summarize(&self, sheet: &[u8], label: u8, source: u8) -> Result<Summary, summary::Refusal> {
+        summary::summarize(sheet, label, source)
     }
 }
 
@@ -247,6 +251,22 @@ pub fn listing_room(subject: &dyn Subject, bytes: &[u8], room: usize) -> Outcome
     Ok(())
 }
 
+/// One sheet summed up for a label and a source.
+pub fn summary(subject: &dyn Subject, bytes: &[u8], label: u8, source: u8) -> Outcome {
+    same(
+        || format!("summary {label:03o} {source} of {}", shown(bytes)),
+        subject.summarize(bytes, label, source),
+        summary::summarize(bytes, label, source),
+    )
+}
+
+/// One sheet summed up for every label and source that a summary can have, for the azimuth and for source 4.
+pub fn summaries(subject: &dyn Subject, bytes: &[u8]) -> Outcome {
+    let labels = summary::LABELS.into_iter().chain([0o222]);
+    let mut choices = labels.flat_map(|label| (0..=4).map(move |source| (label, source)));
+    choices.try_for_each(|(label, source)| summary(subject, bytes, label, source))
+}
+
 /// One field written into a buffer: the answer and the whole buffer afterwards.
 pub fn write(subject: &dyn Subject, buffer: &[u8], place: usize, content: &Content) -> Outcome {
     let (mut theirs, mut ours) = (buffer.to_vec(), buffer.to_vec());
@@ -279,6 +299,7 @@ pub fn random(subject: &dyn Subject, random: &mut Random, rounds: usize) -> Outc
         sheet(subject, &bytes)?;
         let room = random.below(400) as usize;
         listing_room(subject, &bytes, room)?;
+        random_summary(subject, random)?;
         let length = random.below(40) as usize;
         parts(subject, &generate::part_words(random, length))?;
         random_writes(subject, random)?;
@@ -322,6 +343,12 @@ pub fn random_explanations(subject: &dyn Subject, random: &mut Random) -> Outcom
         explanation(subject, word, millionths)?;
     }
     Ok(())
+}
+
+/// A sheet of any sort, summed up.
+pub fn random_summary(subject: &dyn Subject, random: &mut Random) -> Outcome {
+    let (bytes, label, source) = generate::any_summarized(random);
+    summary(subject, &bytes, label, source)
 }
 
 /// A field of each sort written at a random place of a buffer.

@@ -3,6 +3,7 @@
 use crate::explain::LINE_MOST;
 use crate::figure::{self, Quantity, QUANTITIES};
 use crate::sheet::{self, Content, LIMIT};
+use crate::summary;
 use crate::word::{self, Body, Record, LABELS};
 use std::collections::BTreeSet;
 
@@ -554,14 +555,14 @@ fn word_and_figure(random: &mut Random, out: &mut Vec<u8>) {
     out.extend(sheet::field_bytes(&Content::Figure(label, figure)));
 }
 
-/// A legal run of fields at a depth, of about `size` bytes.
-fn legal_run(random: &mut Random, size: usize, depth: usize) -> Vec<u8> {
+/// A legal run of fields at a depth, of about `size` bytes, made of these leaves and of groups.
+fn legal_run(random: &mut Random, size: usize, depth: usize, leaf: &dyn Fn(&mut Random, &mut Vec<u8>)) -> Vec<u8> {
     let mut run = Vec::new();
     while run.len() < size {
         if depth < 4 && random.once_in(4) {
             let room = size - run.len();
             let inside_size = random.below(room as u64 + 1) as usize;
-            let inside = legal_run(random, inside_size, depth + 1);
+            let inside = legal_run(random, inside_size, depth + 1, leaf);
             run.extend(sheet::field_bytes(&Content::Group(&inside)));
         } else {
             leaf(random, &mut run);
@@ -572,7 +573,7 @@ fn legal_run(random: &mut Random, size: usize, depth: usize) -> Vec<u8> {
 
 /// A legal sheet of about `size` bytes, with groups to depth 3 and fields to depth 4.
 pub fn legal_sheet(random: &mut Random, size: usize) -> Vec<u8> {
-    let sheet = legal_run(random, size, 1);
+    let sheet = legal_run(random, size, 1, &leaf);
     debug_assert!(sheet.len() > LIMIT || sheet::check(&sheet).is_ok());
     sheet
 }
@@ -580,7 +581,7 @@ pub fn legal_sheet(random: &mut Random, size: usize) -> Vec<u8> {
 /// A run of legal fields of exactly `size` bytes, at least 3: a legal sheet filled up by a note.
 pub fn exact_sheet(random: &mut Random, size: usize) -> Vec<u8> {
     let share = random.below(size as u64) as usize;
-    let mut sheet = legal_run(random, share.saturating_sub(64), 1);
+    let mut sheet = legal_run(random, share.saturating_sub(64), 1, &leaf);
     if sheet.len() + 3 > size {
         sheet.clear();
     }
@@ -714,6 +715,77 @@ pub fn every_short_field(depth: usize) -> impl Iterator<Item = Vec<u8>> {
             })
         })
     })
+}
+
+// ---- sheets that are summed up
+
+/// The label and source of a summary: mostly those that one can have.
+fn any_choice(random: &mut Random) -> (u8, u8) {
+    let label = match random.below(24) {
+        0 => random.draw() as u8,
+        1 => random.pick(&LABELS).0,
+        _ => *random.pick(&summary::LABELS),
+    };
+    let source = match random.below(24) {
+        0 => random.draw() as u8,
+        1 => 4,
+        _ => random.below(4) as u8,
+    };
+    (label, source)
+}
+
+/// A word for the summary of a label and a source: mostly one of theirs, under any status, its count at an end more often than
+/// chance; here and there of another source or label, damaged, or any word.
+fn summarized_word(random: &mut Random, label: u8, source: u8) -> u32 {
+    let own = if summary::LABELS.contains(&label) { label } else { *random.pick(&summary::LABELS) };
+    let sort = random.below(12);
+    let mut record = match sort {
+        0 => legal_record(random),
+        1 => {
+            let other = *random.pick(&summary::LABELS);
+            legal_record_of(random, other)
+        }
+        _ => legal_record_of(random, own),
+    };
+    if sort != 2 {
+        record.source = source % 4;
+    }
+    let word = word::encode(&record).unwrap();
+    match sort {
+        3 => word ^ 1 << random.below(32),
+        4 => with_parity(word ^ 1 << random.below(31)),
+        5 => any_word(random),
+        _ => word,
+    }
+}
+
+/// A sheet with the label and source of a summary of it: words that are mostly theirs, at every depth, among other fields; of a
+/// few bytes mostly, up to the limit now and then; damaged, or of any sort, here and there.
+pub fn any_summarized(random: &mut Random) -> (Vec<u8>, u8, u8) {
+    let (label, source) = any_choice(random);
+    if random.once_in(12) {
+        return (any_sheet(random), label, source);
+    }
+    let size = match random.below(100) {
+        0 => random.below(LIMIT as u64 + 100),
+        _ => random.below(250),
+    } as usize;
+    let mut sheet = legal_run(random, size, 1, &|random, out| match random.below(6) {
+        0 => leaf(random, out),
+        _ => out.extend(sheet::field_bytes(&Content::Word(summarized_word(random, label, source)))),
+    });
+    if random.once_in(5) {
+        damage(random, &mut sheet);
+    }
+    (sheet, label, source)
+}
+
+/// A full sheet of ready words of one label and source, all with the least count or all with the greatest.
+pub fn fullest_sheet(label: u8, source: u8, least: bool) -> Vec<u8> {
+    let quantity = figure::quantity_of(label).unwrap();
+    let count = if least { quantity.least } else { quantity.greatest };
+    let record = figure::measured_record(label, source, count as i64).unwrap();
+    sheet::field_bytes(&Content::Word(word::encode(&record).unwrap())).repeat(LIMIT / 7)
 }
 
 // ---- writing

@@ -14,6 +14,7 @@ pub mod listing;
 pub mod reading;
 pub mod reassembly;
 pub mod sheet;
+pub mod summary;
 pub mod word;
 
 pub use explain::{explain, explain_text};
@@ -22,4 +23,5 @@ pub use figure::{agrees, code, print_millionths, print_text};
 pub use listing::list;
 pub use reassembly::{Answer, Partial};
 pub use sheet::{check, note, write, Content, Field};
+pub use summary::{summarize, summary_text, Summary};
 pub use word::{decode, encode, Body, Record};

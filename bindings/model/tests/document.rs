@@ -7,6 +7,7 @@ use model::reassembly::{step, Answer};
 use model::sheet::{self, Content};
 use model::word::{self, FAILURE, NODATA, READY, TEST};
 use model::{agrees, code, decode, encode, explain, explain_text, list, note, print_text, write, Body, Record};
+use model::{generate, summarize, summary_text};
 
 fn value(word: u32) -> Value {
     reading::reading(&decode(word).unwrap()).unwrap().value
@@ -246,6 +247,72 @@ fn listing() {
     assert_eq!(list(&bytes), text);
     assert_eq!(list(&[]), "words 0 refused 0\n");
     assert_eq!(list(&[0x20, 0, 1, 0x10]), "sheet refused 9 at 3\n");
+}
+
+/// Words one after the other, each in a field.
+fn sheet_of(words: &[u32]) -> Vec<u8> {
+    words.iter().flat_map(|&word| sheet::field_bytes(&Content::Word(word))).collect()
+}
+
+/// Request 2's numbers by hand: a course word of each status, ready ones in groups, and words that are others or refused.
+#[test]
+fn summaries() {
+    let course = |source, status, count| {
+        encode(&Record { source, body: Body::IlsCourse { status, inhibit: count < 0, count } }).unwrap()
+    };
+    let inside = sheet_of(&[course(2, READY, -4096), course(2, TEST, 4095), 0xE800_0049]);
+    let deeper = [sheet_of(&[course(2, READY, 5)]), sheet::field_bytes(&Content::Group(&inside))].concat();
+    let top = [course(2, READY, 7), course(2, NODATA, 4095), course(2, FAILURE, -4096), course(1, READY, 4000)];
+    let sheet = [
+        sheet_of(&top),
+        sheet::field_bytes(&Content::Figure(0o173, 1)),
+        sheet::field_bytes(&Content::Group(&deeper)),
+        sheet_of(&[course(2, READY, 7), course(2, READY, 4094) ^ 1 << 31]),
+    ]
+    .concat();
+    let summary = summarize(&sheet, 0o173, 2).unwrap();
+    assert_eq!([summary.ready, summary.test, summary.nodata, summary.failure], [4, 1, 1, 1]);
+    assert_eq!([summary.refused, summary.other, summary.words], [1, 2, 10]);
+    assert_eq!((summary.least, summary.greatest, summary.sum), (Some(-4096), Some(7), -4077));
+    assert_eq!(summary.mean, Some((-4077, 4)));
+    let text = "173 source 2: ready 4 test 1 nodata 1 failure 1\n\
+                least -4096 -0.400000 greatest 7 0.000684\n\
+                sum -4077 mean -4077/4\n\
+                words 10 refused 1 other 2\n";
+    assert_eq!(summary_text(0o173, 2, &summary), text);
+    // "With no ready word there is no least, greatest or mean."
+    let none = summarize(&sheet, 0o174, 2).unwrap();
+    assert_eq!((none.ready, none.least, none.greatest, none.sum, none.mean), (0, None, None, 0, None));
+    assert_eq!((none.refused, none.other, none.words), (1, 9, 10));
+    let text = "174 source 2: ready 0 test 0 nodata 0 failure 0\n\
+                least - greatest -\n\
+                sum 0 mean -\n\
+                words 10 refused 1 other 9\n";
+    assert_eq!(summary_text(0o174, 2, &none), text);
+    // The mean is not reduced, and a sum of 0 is one.
+    let zeros = sheet_of(&[course(0, READY, 3), course(0, READY, -3)]);
+    assert_eq!(summarize(&zeros, 0o173, 0).unwrap().mean, Some((0, 2)));
+    // The largest sums that there are: 4681 words.
+    for (least, sum) in [(true, -4681 * 32768), (false, 4681 * 32767)] {
+        let summary = summarize(&generate::fullest_sheet(0o152, 3, least), 0o152, 3).unwrap();
+        assert_eq!((summary.words, summary.sum, summary.mean), (4681, sum, Some((sum, 4681))));
+    }
+}
+
+/// "Refusals: 2 for the label, 4 for the source, then the sheet's own."
+#[test]
+fn summaries_refused() {
+    let cut = [0x20, 0, 1, 0x10];
+    for label in (0..=255).filter(|label| ![0o173, 0o174, 0o151, 0o152].contains(label)) {
+        assert_eq!(summarize(&cut, label, 4), Err((2, None)), "{label:03o}");
+    }
+    for label in [0o173, 0o174, 0o151, 0o152] {
+        assert_eq!(summarize(&cut, label, 4), Err((4, None)));
+        assert_eq!(summarize(&cut, label, 255), Err((4, None)));
+        assert_eq!(summarize(&cut, label, 3), Err((9, Some(3))));
+        assert_eq!(summarize(&vec![0; 32_769], label, 0), Err((15, Some(0))));
+        assert_eq!(summarize(&[], label, 0).unwrap().words, 0);
+    }
 }
 
 #[test]

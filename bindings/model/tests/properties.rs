@@ -6,6 +6,7 @@ use model::figure::{quantity_of, QUANTITIES};
 use model::generate::{self, Random};
 use model::reading::{self, Reading};
 use model::sheet::{self, Content, Field, LIMIT};
+use model::summary::{self, Summary};
 use model::word::{self, Body, READY, TEST};
 use model::{code, decode, encode, explain_text, print_millionths};
 use std::collections::BTreeSet;
@@ -257,6 +258,74 @@ fn sheets_reach_every_refusal() {
     }
 }
 
+/// "the four numbers, the refused words and the accepted words of other labels or sources must add up to all words"; the listing
+/// has as many words, refused ones and ready ones of that label and source, and shows the least and the greatest figure.
+#[test]
+fn summaries_add_up() {
+    let mut random = Random::from_environment("summaries", 10);
+    let mut legal = 0;
+    for _ in 0..4000 {
+        let (bytes, label, source) = generate::any_summarized(&mut random);
+        let Ok(s) = model::summarize(&bytes, label, source) else {
+            continue;
+        };
+        legal += 1;
+        let own = s.ready + s.test + s.nodata + s.failure;
+        assert_eq!(own + s.refused + s.other, s.words);
+        assert!(model::list(&bytes).ends_with(&format!("words {} refused {}\n", s.words, s.refused)));
+        assert_eq!([s.least.is_some(), s.greatest.is_some(), s.mean.is_some()], [s.ready > 0; 3]);
+        if let (Some(least), Some(greatest), Some((sum, number))) = (s.least, s.greatest, s.mean) {
+            assert_eq!((sum, number), (s.sum, s.ready));
+            assert!(least * number as i64 <= sum && sum <= greatest * number as i64);
+        }
+        assert!(s.ready > 0 || s.sum == 0);
+        let lines = model::list(&bytes);
+        let ready = lines.lines().filter(|line| line.starts_with(&format!("{label:03o} {source} ready ")));
+        let figures: Vec<String> = ready.map(|line| line.rsplit(' ').next().unwrap().to_string()).collect();
+        assert_eq!(figures.len(), s.ready);
+        let shown =
+            |count: Option<i64>| count.is_none_or(|count| figures.contains(&model::print_text(label, count).unwrap()));
+        assert!(shown(s.least) && shown(s.greatest));
+    }
+    assert!(legal > 2000, "{legal} legal");
+}
+
+/// The sheets made for comparisons reach every refusal, every status with counts at both ends, and no ready word.
+#[test]
+fn summaries_reach_every_answer() {
+    let mut random = Random::from_environment("summed up", 12);
+    let mut refusals = [0; 16];
+    let mut seen = [0; 10];
+    for _ in 0..20_000 {
+        let (bytes, label, source) = generate::any_summarized(&mut random);
+        match model::summarize(&bytes, label, source) {
+            Ok(s) => {
+                let quantity = quantity_of(label).unwrap();
+                let at = |count: Option<i64>, end: i128| count.is_some_and(|count| i128::from(count) == end);
+                let sorts = [
+                    s.ready > 1,
+                    s.test > 0,
+                    s.nodata > 0,
+                    s.failure > 0,
+                    s.refused > 0,
+                    s.other > 0,
+                    s.ready == 0 && s.words > 0,
+                    at(s.least, quantity.least),
+                    at(s.greatest, quantity.greatest),
+                    s.ready > 300,
+                ];
+                sorts.iter().zip(&mut seen).for_each(|(holds, times)| *times += usize::from(*holds));
+            }
+            Err((number, offset)) => {
+                refusals[usize::from(number)] += 1;
+                assert_eq!(offset.is_some(), number > 8);
+            }
+        }
+    }
+    assert!([2, 4, 9, 10, 11, 12, 15].iter().all(|&number: &usize| refusals[number] > 5), "{refusals:?}");
+    assert!(seen.iter().all(|&times| times > 20), "{seen:?}");
+}
+
 /// The comparison with other code: the model agrees with itself.
 #[test]
 fn the_model_agrees_with_itself() {
@@ -318,6 +387,12 @@ impl Subject for Wrong {
         }
         Ok(length)
     }
+    /// The source is looked at before the label, and a test word has a mean.
+    fn summarize(&self, sheet: &[u8], label: u8, source: u8) -> Result<Summary, summary::Refusal> {
+        let s =
+            model::summarize(sheet, label, source).map_err(|refusal| if source > 3 { (4, None) } else { refusal })?;
+        Ok(Summary { mean: (s.ready + s.test > 0).then_some((s.sum, s.ready)), ..s })
+    }
 }
 
 #[test]
@@ -341,6 +416,14 @@ fn comparison_finds_differences() {
     assert!(compare::write(&Wrong, &[0; 7], 0, &Content::Word(0)).is_ok());
     assert!(compare::write(&Wrong, &[0; 6], 0, &Content::Word(0)).is_err());
     assert!(compare::listing_room(&Wrong, &[], 5).is_err());
+    assert!(compare::summary(&Wrong, &[], 0o222, 0).is_ok());
+    assert!(compare::summary(&Wrong, &[], 0o222, 4).is_err());
+    for (status, same) in [(READY, true), (TEST, false)] {
+        let word = word(Body::IlsCourse { status, inhibit: false, count: 1 });
+        let bytes = sheet::field_bytes(&Content::Word(word));
+        assert_eq!(compare::summary(&Wrong, &bytes, 0o173, 0).is_ok(), same);
+        assert!(compare::summaries(&Wrong, &bytes).is_err());
+    }
     let west = code(0o222, 0, -351_562).unwrap();
     assert!(compare::explanation(&Wrong, west, -35_156_200).is_ok());
     assert!(compare::explanation(&Wrong, west, 359_640).is_err());

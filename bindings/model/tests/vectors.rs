@@ -64,6 +64,39 @@ fn explanations() {
     assert!(told.iter().all(|&times| times > 0), "{told:?}");
 }
 
+/// The bytes of a sheet in hexadecimal digits; `-` is the empty one.
+fn sheet_bytes(text: &str) -> Vec<u8> {
+    let digits = text.trim_start_matches('-').as_bytes().chunks(2);
+    digits.map(|pair| u8::from_str_radix(std::str::from_utf8(pair).unwrap(), 16).unwrap()).collect()
+}
+
+#[test]
+fn summaries() {
+    let shown = |number: Option<i64>| number.map_or("-".to_string(), |number| number.to_string());
+    for line in lines("test_summary/data/summary.txt", 112) {
+        let (label, source) = (u8::from_str_radix(&line[1], 8).unwrap(), line[2].parse().unwrap());
+        let answer = match model::summarize(&sheet_bytes(&line[0]), label, source) {
+            Ok(s) => format!(
+                "ready={} test={} nodata={} failure={} refused={} others={} words={} least={} greatest={} sum={} mean={}",
+                s.ready,
+                s.test,
+                s.nodata,
+                s.failure,
+                s.refused,
+                s.other,
+                s.words,
+                shown(s.least),
+                shown(s.greatest),
+                s.sum,
+                s.mean.map_or("-".to_string(), |(sum, number)| format!("{sum}/{number}"))
+            ),
+            Err((number, None)) => format!("refused {number}"),
+            Err((number, Some(offset))) => format!("refused {number} {offset}"),
+        };
+        assert_eq!(answer, line[3..].join(" "), "{:.400} {:?}", line[0], &line[1..]);
+    }
+}
+
 #[test]
 fn joins() {
     let mut state = None;

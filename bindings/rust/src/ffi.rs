@@ -135,6 +135,23 @@ pub struct Listed {
     pub length: usize,
 }
 
+#[repr(C)]
+#[derive(Clone, Copy, Debug, Default, PartialEq, Eq)]
+pub struct Summary {
+    pub refusal: u8,
+    pub offset: usize,
+    pub ready: u64,
+    pub test: u64,
+    pub nodata: u64,
+    pub failure: u64,
+    pub refused: u64,
+    pub other: u64,
+    pub words: u64,
+    pub least: i16,
+    pub greatest: i16,
+    pub sum: i64,
+}
+
 extern "C" {
     pub fn lampcygnet_decode(word: u32) -> Record;
     pub fn lampcygnet_encode(fields: Record) -> Word;
@@ -156,4 +173,5 @@ extern "C" {
     pub fn lampcygnet_write_note(out: *mut u8, room: usize, place: usize, text: *const u8, length: usize) -> Place;
     pub fn lampcygnet_write_group(out: *mut u8, room: usize, place: usize, run: *const u8, length: usize) -> Place;
     pub fn lampcygnet_list_sheet(sheet: *const u8, length: usize, out: *mut u8, room: usize) -> Listed;
+    pub fn lampcygnet_summarize(sheet: *const u8, length: usize, label: u32, source: u32) -> Summary;
 }

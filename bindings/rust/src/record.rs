@@ -362,9 +362,9 @@ impl fmt::Display for Status {
 }
 
 /// A number of units of 1/10^places.
-struct Fixed {
-    units: i64,
-    places: u32,
+pub(crate) struct Fixed {
+    pub units: i64,
+    pub places: u32,
 }
 
 impl fmt::Display for Fixed {

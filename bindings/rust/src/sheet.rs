@@ -16,8 +16,10 @@
 //! # Ok::<(), SheetRefusal>(())
 //! ```
 
+mod summary;
 mod writer;
 
+pub use summary::{summarize, Mean, Range, Summary};
 pub use writer::{write_figure, write_group, write_note, write_word, Builder};
 
 use crate::ffi;
@@ -32,12 +34,13 @@ pub const SHEET_MOST: usize = 32_768;
 /// The most bytes that a listing has.
 pub const LISTING_MOST: usize = 117_085;
 
-/// Why a sheet, a note or a field is refused, and where.
+/// Why a sheet, a note, a field or a summary is refused, and where.
 #[derive(Clone, Copy, Debug, PartialEq, Eq, Hash)]
 pub struct SheetRefusal {
     pub refusal: Refusal,
     /// The offset of the refused field's tag in the sheet, or in the run that was to be a group; the place at which a note
-    /// was asked for; 0 for [`Refusal::Oversize`] and [`Refusal::Room`].
+    /// was asked for; 0 for [`Refusal::Oversize`] and [`Refusal::Room`], and for [`Refusal::Label`] and [`Refusal::Code`] of a
+    /// summary.
     pub offset: usize,
 }
 

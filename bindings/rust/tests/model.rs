@@ -2,7 +2,7 @@
 
 mod library;
 
-use lampcygnet::sheet::{Builder, Content, Sheet, SheetRefusal};
+use lampcygnet::sheet::{self as sheets, Builder, Content, Sheet, SheetRefusal};
 use lampcygnet::{Reason, Reassembler, Refusal};
 use library::Library;
 use model::compare;
@@ -159,6 +159,42 @@ fn every_short_field() {
     }
 }
 
+/// Sheets summed up: words mostly of the label and source that are asked for, legal and damaged, 60,000; and the fullest ones.
+#[test]
+fn random_summaries() {
+    let mut random = Random::from_environment("summaries", 12);
+    for _ in 0..60_000 {
+        compare::random_summary(&Library, &mut random).unwrap();
+    }
+    for label in model::summary::LABELS {
+        for least in [false, true] {
+            compare::summaries(&Library, &generate::fullest_sheet(label, 3, least)).unwrap();
+        }
+    }
+}
+
+/// Sheets of every sort summed up for every label and source that a summary can have.
+#[test]
+fn summaries_of_every_choice() {
+    let mut random = Random::from_environment("summaries of every choice", 13);
+    for _ in 0..5_000 {
+        compare::summaries(&Library, &generate::any_sheet(&mut random)).unwrap();
+    }
+}
+
+/// A summary is shown as the program tells it.
+#[test]
+fn summaries_are_shown_as_told() {
+    let mut random = Random::from_environment("summaries shown", 14);
+    for _ in 0..20_000 {
+        let (bytes, label, source) = generate::any_summarized(&mut random);
+        if let Ok(summary) = sheets::summarize(&bytes, label, source) {
+            let ours = model::summarize(&bytes, label, source).unwrap();
+            assert_eq!(summary.to_string(), model::summary_text(label, source, &ours));
+        }
+    }
+}
+
 /// The sheets of the test vectors, each damaged once at every place of its start, and then again and again at random.
 #[test]
 fn damaged_vectors() {
@@ -171,6 +207,7 @@ fn damaged_vectors() {
             let bytes = fs::read(&name).unwrap();
             sheets += 1;
             compare::sheet(&Library, &bytes).unwrap();
+            compare::summaries(&Library, &bytes).unwrap();
             let start = &bytes[..bytes.len().min(200)];
             for damaged in generate::damaged_everywhere(start) {
                 compare::sheet(&Library, &damaged).unwrap();

@@ -11,7 +11,9 @@ use model::generate::{self, Random};
 use model::reassembly::{self, Answer, Partial};
 use model::sheet::{self, FIGURE, GROUP, NOTE, WORD};
 use model::word::LABELS;
-use model::{Body, Record};
+use model::{Body, Content, Record};
+use std::fs;
+use std::path::PathBuf;
 use std::ptr;
 
 /// A byte, small ones far more often than chance.
@@ -475,6 +477,185 @@ fn refused_sheets() {
     }
 }
 
+fn summarize(sheet: &[u8], label: u32, source: u32) -> ffi::Summary {
+    // Pointer and length are those of a slice, which is only read.
+    unsafe { ffi::lampcygnet_summarize(sheet.as_ptr(), sheet.len(), label, source) }
+}
+
+/// The model's answer as C has it: what is not there is 0.
+fn summary_numbers(answer: Result<model::Summary, model::summary::Refusal>) -> ffi::Summary {
+    let count = |count: Option<i64>| count.unwrap_or(0).try_into().unwrap();
+    match answer {
+        Ok(summary) => ffi::Summary {
+            refusal: 0,
+            offset: 0,
+            ready: summary.ready as u64,
+            test: summary.test as u64,
+            nodata: summary.nodata as u64,
+            failure: summary.failure as u64,
+            refused: summary.refused as u64,
+            other: summary.other as u64,
+            words: summary.words as u64,
+            least: count(summary.least),
+            greatest: count(summary.greatest),
+            sum: summary.sum,
+        },
+        Err((refusal, offset)) => ffi::Summary {
+            refusal,
+            offset: offset.unwrap_or(0),
+            ..ffi::Summary::default()
+        },
+    }
+}
+
+/// Labels and sources above a byte too; beside a refusal every other number is 0 but for the sheet's offset. What stands around the
+/// sheet does not count.
+#[test]
+fn summaries_of_any_numbers() {
+    let mut random = Random::from_environment("summaries of numbers", 32);
+    for _ in 0..40_000 {
+        let (sheet, label, source) = generate::any_summarized(&mut random);
+        let wide = |random: &mut Random, number: u8| {
+            let more = random.draw() as u32 >> random.below(24) << 8;
+            u32::from(number) | if random.once_in(8) { more } else { 0 }
+        };
+        let (wide_label, wide_source) = (wide(&mut random, label), wide(&mut random, source));
+        let model = match (u8::try_from(wide_label), u8::try_from(wide_source)) {
+            (Err(_), _) => Err((2, None)),
+            (Ok(label), Err(_)) => model::summarize(&sheet, label, 4),
+            (Ok(label), Ok(source)) => model::summarize(&sheet, label, source),
+        };
+        let expected = summary_numbers(model);
+        for around in [&[0x10u8, 0, 4, 0x64, 0, 0, 0xDE][..], &[0xFF]] {
+            let surrounded = Surrounded::new(&sheet, around);
+            let theirs = summarize(surrounded.sheet(), wide_label, wide_source);
+            assert_eq!(theirs, expected, "{wide_label:o} {wide_source}");
+        }
+    }
+}
+
+/// The example flight, worked out by hand: of source 1 two ready course words, with the counts 126 and 128, and one under failure, a
+/// ready glide word and one with no data; of source 2 a ready word of each MLS deviation; and 14 other words, one of them refused.
+#[test]
+fn summary_of_the_example() {
+    let path = PathBuf::from(env!("CARGO_MANIFEST_DIR")).join("../../examples/flight.sheet");
+    let flight = fs::read(path).unwrap();
+    let all = ffi::Summary {
+        refused: 1,
+        words: 21,
+        ..ffi::Summary::default()
+    };
+    let course = ffi::Summary {
+        ready: 2,
+        failure: 1,
+        other: 17,
+        least: 126,
+        greatest: 128,
+        sum: 254,
+        ..all
+    };
+    assert_eq!(summarize(&flight, 0o173, 1), course);
+    let glide = ffi::Summary {
+        ready: 1,
+        nodata: 1,
+        other: 18,
+        least: -108,
+        greatest: -108,
+        sum: -108,
+        ..all
+    };
+    assert_eq!(summarize(&flight, 0o174, 1), glide);
+    let one = |count: i16| ffi::Summary {
+        ready: 1,
+        other: 19,
+        least: count,
+        greatest: count,
+        sum: count.into(),
+        ..all
+    };
+    assert_eq!(summarize(&flight, 0o151, 2), one(171)); // 12.5172 mV
+    assert_eq!(summarize(&flight, 0o152, 2), one(-112)); // -8.1984 mV
+    let none = ffi::Summary { other: 20, ..all };
+    for (label, source) in [(0o173, 0), (0o173, 2), (0o174, 3), (0o151, 1), (0o152, 0)] {
+        assert_eq!(summarize(&flight, label, source), none);
+    }
+    let text = "173 source 1: ready 2 test 0 nodata 0 failure 1\n\
+                least 126 0.012305 greatest 128 0.012500\n\
+                sum 254 mean 254/2\n\
+                words 21 refused 1 other 17\n";
+    let summary = lampcygnet::sheet::summarize(&flight, 0o173, 1).unwrap();
+    assert_eq!(summary.to_string(), text);
+}
+
+/// Words at every depth count, figures and notes do not; and the ends of the counts.
+#[test]
+fn summary_of_groups() {
+    let course = |status, count| {
+        let body = Body::IlsCourse {
+            status,
+            inhibit: true,
+            count,
+        };
+        sheet::field_bytes(&Content::Word(model::encode(&Record { source: 3, body }).unwrap()))
+    };
+    let group = |inside: &[Vec<u8>]| sheet::field_bytes(&Content::Group(&inside.concat()));
+    let [failure, nodata, test, ready] = [0, 1, 2, 3];
+    let deepest = group(&[course(ready, -4096), course(test, 1)]);
+    let deeper = group(&[deepest, course(ready, 4095), group(&[])]);
+    let deep = group(&[course(nodata, 2), deeper, course(ready, -4096)]);
+    let word_in_a_note = sheet::field_bytes(&Content::Note(&course(ready, 4)));
+    let figure = sheet::field_bytes(&Content::Figure(0o173, 4));
+    let bytes = [word_in_a_note, deep, figure, course(failure, 3), course(ready, 0)].concat();
+    let expected = ffi::Summary {
+        ready: 4,
+        test: 1,
+        nodata: 1,
+        failure: 1,
+        words: 7,
+        least: -4096,
+        greatest: 4095,
+        sum: -4097,
+        ..ffi::Summary::default()
+    };
+    assert_eq!(summarize(&bytes, 0o173, 3), expected);
+    let other = ffi::Summary {
+        other: 7,
+        words: 7,
+        ..ffi::Summary::default()
+    };
+    for (label, source) in [(0o173, 0), (0o173, 2), (0o174, 3), (0o151, 3), (0o152, 3)] {
+        assert_eq!(summarize(&bytes, label, source), other);
+    }
+}
+
+/// 2 is told before 4, and 4 before the sheet's own refusal, which has its offset.
+#[test]
+fn summaries_refused_in_order() {
+    let told = |sheet: &[u8], label, source, refusal, offset| {
+        let expected = ffi::Summary {
+            refusal,
+            offset,
+            ..ffi::Summary::default()
+        };
+        assert_eq!(summarize(sheet, label, source), expected, "{label:o} {source}");
+    };
+    let cut = [0x10, 0, 4, 0x64, 0, 0, 0xDE, 0x12, 0, 1];
+    for (sheet, refusal, offset) in [(&cut[..], 9, 7), (&cut[..7], 0, 0), (&[0; 32_769], 15, 0)] {
+        for label in [0, 0o222, 0o34, 0o153, 0o172, 0o175, 0o150, 0o140, 256 + 0o173, u32::MAX] {
+            told(sheet, label, 4, 2, 0);
+            told(sheet, label, 0, 2, 0);
+        }
+        for label in [0o173, 0o174, 0o151, 0o152] {
+            for source in [4, 5, 255, 256, 257, u32::MAX] {
+                told(sheet, label, source, 4, 0);
+            }
+            if refusal != 0 {
+                told(sheet, label, 3, refusal, offset);
+            }
+        }
+    }
+}
+
 /// No bytes at a null pointer are the empty sheet, content, text and run; a buffer of none has no room.
 #[test]
 fn no_bytes_at_null() {
@@ -491,6 +672,7 @@ fn no_bytes_at_null() {
             }
         );
         assert_eq!(ffi::lampcygnet_find_note(bytes, 0, 0).refusal, 10);
+        assert_eq!(ffi::lampcygnet_summarize(bytes, 0, 0o173, 0), ffi::Summary::default());
         assert_eq!(ffi::lampcygnet_word_in(bytes, 0).refusal, 11);
         assert_eq!(ffi::lampcygnet_figure_in(bytes, 0).refusal, 11);
         assert_eq!(ffi::lampcygnet_write_word(out, 0, 0, 0).refusal, 13);

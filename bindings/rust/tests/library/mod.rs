@@ -1,6 +1,6 @@
 //! The library as the model's subject: its records and refusals in the model's numbers.
 
-use lampcygnet::sheet::{self, Content, Sheet, SheetRefusal};
+use lampcygnet::sheet::{self, Content, Range, Sheet, SheetRefusal, Summary};
 use lampcygnet::{Body, Category, Marker, Reading, Reason, Record, Refusal, Shown, Status};
 use model::compare::Subject;
 use model::reading::Value;
@@ -298,6 +298,31 @@ fn content_from_model<'a>(content: &model::Content<'a>) -> Content<'a> {
     }
 }
 
+/// The model's summary. The range must be one of the label's own.
+fn summary_to_model(summary: Summary) -> model::Summary {
+    let range = summary.range.map(|range| match (summary.label, range) {
+        (0o173, Range::IlsCourse { least, greatest })
+        | (0o174, Range::IlsGlide { least, greatest })
+        | (0o151, Range::MlsAzimuthDeviation { least, greatest })
+        | (0o152, Range::MlsGlideDeviation { least, greatest }) => (least.into(), greatest.into()),
+        _ => panic!("no range of its label: {summary:?}"),
+    });
+    let number = |number: u64| number.try_into().unwrap();
+    model::Summary {
+        ready: number(summary.ready),
+        test: number(summary.test),
+        nodata: number(summary.nodata),
+        failure: number(summary.failure),
+        refused: number(summary.refused),
+        other: number(summary.other),
+        words: number(summary.words),
+        least: range.map(|range| range.0),
+        greatest: range.map(|range| range.1),
+        sum: summary.sum,
+        mean: summary.mean().map(|mean| (mean.sum, number(mean.number))),
+    }
+}
+
 impl Subject for Library {
     fn decode(&self, word: u32) -> Result<model::Record, u8> {
         lampcygnet::decode(word).map(to_model).map_err(Refusal::number)
@@ -362,5 +387,17 @@ impl Subject for Library {
     }
     fn list_into(&self, sheet: &[u8], buffer: &mut [u8]) -> Result<usize, u8> {
         sheet::list_into(sheet, buffer).map_err(Refusal::number)
+    }
+    fn summarize(&self, sheet: &[u8], label: u8, source: u8) -> Result<model::Summary, model::summary::Refusal> {
+        let answer = sheet::summarize(sheet, label, source);
+        if let Ok(sheet) = Sheet::new(sheet) {
+            assert_eq!(sheet.summary(label, source), answer.map_err(|refused| refused.refusal));
+        }
+        let summary = answer.map_err(|refusal| match refused(refusal) {
+            (number @ (2 | 4), 0) => (number, None),
+            (number, offset) => (number, Some(offset)),
+        })?;
+        assert_eq!((summary.label, summary.source), (label, source));
+        Ok(summary_to_model(summary))
     }
 }
