@@ -84,6 +84,11 @@ fn ready_word(random: &mut Random, label: u32) -> u32 {
     with_parity(3 << 29 | random.draw() as u32 & source_and_count | label)
 }
 
+/// Words of ILS course or glide, by the low byte of their label, and of a source, with any status and count.
+pub fn deviation_words(random: &mut Random, low: u32, source: u32, length: usize) -> Vec<u32> {
+    (0..length).map(|_| with_parity(random.draw() as u32 & 0x7FFF_0000 | source << 8 | low)).collect()
+}
+
 /// A word that is refused where a ready word stood: it with another bit, it without data, or a selected glide angle.
 fn refused_word(random: &mut Random, word: u32) -> u32 {
     match random.below(3) {

@@ -226,6 +226,8 @@ fn main() {
         .map(|kib| (0..ITEMS / 1024 / kib).map(|_| input::sheet(&mut random, &received, kib * 1024)).collect())
         .collect();
     let explained = input::explanations(&mut random, ITEMS);
+    let chosen = input::deviation_words(&mut random, u32::from(CHOICE.0.reverse_bits()), u32::from(CHOICE.1), ITEMS);
+    let flights: Vec<Vec<u8>> = (0..ITEMS / 1024 / 32).map(|_| input::sheet(&mut random, &chosen, 32 * 1024)).collect();
 
     heading("A word to its record, ns a word:");
     rows_by_length("words of any bits", &any, |who, words| (who.decode)(words));
@@ -241,4 +243,7 @@ fn main() {
     rows_by_size(&sheets, |who, sheet| (who.list)(sheet, &mut texts));
     heading(&format!("The summary of a sheet for label {:03o} and source {}, ns a byte:", CHOICE.0, CHOICE.1));
     rows_by_size(&sheets, |who, sheet| (who.summarize)(sheet));
+    let size = flights.iter().map(Vec::len).sum();
+    let times = times(size, flights.len(), |who, flight| (who.summarize)(black_box(&flights[flight])));
+    row("32 KiB, all words of them", times);
 }
