@@ -86,7 +86,7 @@ use Rattle.flat_contents.specs.declared.FlatFigure.{FlatFigure}
 use Rattle.flat_contents.specs.declared.FlatNote.{FlatNote}
 use Rattle.flat_listing.specs.Listed.{flatListed}
 use Rattle.flat_listing.specs.declared.FlatListed.{FlatListed}
-use Rattle.flat_summaries.specs.Flat.{flatRefused, flatSummarized}
+use Rattle.flat_summaries.specs.Flat.{flatSummarized}
 use Rattle.flat_summaries.specs.declared.FlatSummary.{FlatSummary}
 use Rattle.capi_laws.specs.Summaries.{summaryIn, ZeroWhereNoneReady, summary-told, zeros-told}
 
@@ -209,7 +209,10 @@ abbrev pub LengthTells : Said → FlatListed → Type 0
 LengthTells = Tells (λ (n : FlatListed). n .refusal) (λ f p. record { refusal = numberOf f; length = 0 })
 
 abbrev pub SummaryTells : Said → FlatSummary → Type 0
-SummaryTells = Tells (λ (n : FlatSummary). n .refusal) flatRefused
+SummaryTells =
+    Tells
+    (λ (n : FlatSummary). n .refusal)
+    (λ f p. record { refusal = numberOf f; offset = p; ready = 0; test = 0; nodata = 0; failure = 0; refused = 0; other = 0; words = 0; least = pos 0; greatest = pos 0; sum = pos 0 })
 
 -- ---- the functions that C calls
 
