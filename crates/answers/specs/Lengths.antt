@@ -5,7 +5,7 @@ use mathlib.Core.Bool.{Bool, true, false, cond}
 use mathlib.Core.List.{List, [], _∷_, _++_}
 use mathlib.Core.Logic.{inl}
 use Prim.Native.Nat.{ℕ, suc, _+_, _*_, _/_, _^_, _≤_, _<_}
-use native.Mathlib.Nat.{mod-lt, mul-le-mul}
+use native.Mathlib.Nat.{mod-lt}
 use native.Mathlib.Omega.{arith}
 use lib.Dec.{eqb, lit<}
 use lib.IntN.{ℤ, natAbs}
@@ -13,16 +13,13 @@ use lib.ListN.{length, length-append}
 use lib.Signed.{natAbs-le}
 use Rattle.bits.specs.Fields.{bits}
 use Rattle.bits.specs.Complement.{signed, signed-holds}
-use Rattle.rounding.specs.Parts.{isNegative, natAbs-withSign}
-use Rattle.rounding.specs.Rounding.{roundEven}
-use Rattle.rounding.specs.Laws.{round-at-most}
+use Rattle.rounding.specs.Parts.{isNegative}
 use Rattle.refusals.specs.Numbers.{numberOf, number-bounds}
 use Rattle.labels.specs.Assignment.{document01}
 use Rattle.labels.specs.Label.{labelOf}
 use Rattle.decode.specs.Decode.{decodeOf}
 use Rattle.decode.specs.declared.Decoded.{Decoded}
-use Rattle.quantities.specs.Nearest.{millionthsOf}
-use Rattle.quantities.specs.Scale.{scaleOf}
+use Rattle.quantities.specs.Sizes.{printed-size}
 use Rattle.quantities.specs.declared.Quantity.{Quantity}
 use Rattle.measurements.specs.declared.Measurement.{Measurement}
 use Rattle.figures.specs.Coding.{quantityAt}
@@ -68,30 +65,16 @@ count-size Quantity.Glide w = thirteen w
 count-size Quantity.MlsAzimuth w = sixteen w
 count-size Quantity.MlsGlide w = sixteen w
 
-numerator-size : (q : Quantity) → scaleOf q .numerator ≤ 45000000
-numerator-size Quantity.Azimuth = omega arith
-numerator-size Quantity.Course = omega arith
-numerator-size Quantity.Glide = omega arith
-numerator-size Quantity.MlsAzimuth = omega arith
-numerator-size Quantity.MlsGlide = omega arith
-
 -- and what it is printed as
-printed-size : (q : Quantity) (w : ℕ) → natAbs (millionthsOf q (countBits q w)) ≤ 32768 * 45000000 + 1
-unfolding millionthsOf
-printed-size q w =
-    let product : natAbs (countBits q w) * scaleOf q .numerator ≤ 32768 * 45000000 = mul-le-mul (count-size q w) (numerator-size q) in
-    omega
-    (arith, round-at-most (natAbs (countBits q w) * scaleOf q .numerator) (scaleOf q .denominator), natAbs-withSign (isNegative (countBits q w)) (roundEven (natAbs (countBits q w) * scaleOf q .numerator) (scaleOf q .denominator)))
-
-figure-size : (m : Measured) (w : ℕ) → natAbs (figureFor (held m w)) ≤ 32768 * 45000000 + 1
-figure-size (Measured.As q) w = printed-size q w
+figure-size : (m : Measured) (w : ℕ) → natAbs (figureFor (held m w)) ≤ 2 ^ 42 + 1
+figure-size (Measured.As q) w = printed-size q (countBits q w) (count-size q w)
 figure-size Measured.Nothing w = omega arith
 
-word-figure-size : (w : ℕ) → natAbs (figureFor (wordMeasurement document01 w)) ≤ 32768 * 45000000 + 1
+word-figure-size : (w : ℕ) → natAbs (figureFor (wordMeasurement document01 w)) ≤ 2 ^ 42 + 1
 word-figure-size w = go (decodeOf w) refl
   where
-    go : (d : Decoded) → decodeOf w ≡ d → natAbs (figureFor (decodedMeasurement d)) ≤ 32768 * 45000000 + 1
-    go (Decoded.Accepted r) e = subst⁻¹ (λ (m : Measurement). natAbs (figureFor m) ≤ 32768 * 45000000 + 1) (accepted-held document01 w r e) (figure-size (quantityAt document01 (labelOf w)) w)
+    go : (d : Decoded) → decodeOf w ≡ d → natAbs (figureFor (decodedMeasurement d)) ≤ 2 ^ 42 + 1
+    go (Decoded.Accepted r) e = subst⁻¹ (λ (m : Measurement). natAbs (figureFor m) ≤ 2 ^ 42 + 1) (accepted-held document01 w r e) (figure-size (quantityAt document01 (labelOf w)) w)
     go (Decoded.Refused f) e = omega arith
 
 -- ---- answers

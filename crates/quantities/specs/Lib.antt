@@ -5,5 +5,6 @@ pub mod Line
 pub mod Nearest
 pub mod Scale
 pub mod Sides
+pub mod Sizes
 pub mod Statements
 pub mod Theorems
