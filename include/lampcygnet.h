@@ -54,8 +54,8 @@ enum lampcygnet_kind {
     LAMPCYGNET_KIND_ILS_GLIDE = 4,              /* 174: status, inhibit, count of 1/5120 of modulation depth difference */
     LAMPCYGNET_KIND_ILS_FREQUENCY = 5,          /* 033: status, category, value in tens of kHz */
     LAMPCYGNET_KIND_MLS_FREQUENCY = 6,          /* 036: status, value in tens of kHz */
-    LAMPCYGNET_KIND_MLS_AZIMUTH_DEVIATION = 7,  /* 151: status, inhibit, clearance, count of 0.0732 mV */
-    LAMPCYGNET_KIND_MLS_GLIDE_DEVIATION = 8,    /* 152: status, inhibit, clearance, count of 0.0732 mV */
+    LAMPCYGNET_KIND_MLS_AZIMUTH_DEVIATION = 7,  /* 151: status, inhibit, clearance, count of 75/1024 mV */
+    LAMPCYGNET_KIND_MLS_GLIDE_DEVIATION = 8,    /* 152: status, inhibit, clearance, count of 75/1024 mV */
     LAMPCYGNET_KIND_SELECTED_AZIMUTH = 9,       /* 153: status, manual, value in degrees */
     LAMPCYGNET_KIND_GREATEST_GLIDE_ANGLE = 10,  /* 154: status, value in tenths of a degree */
     LAMPCYGNET_KIND_SELECTED_GLIDE_ANGLE = 11,  /* 155: status, manual, value in tenths of a degree */
@@ -139,7 +139,7 @@ enum lampcygnet_unit {
     LAMPCYGNET_UNIT_NONE = 0,
     LAMPCYGNET_UNIT_DEGREES = 1,              /* `value`: VOR azimuth, exactly count x 45 / 1024 */
     LAMPCYGNET_UNIT_DEPTH_DIFFERENCE = 2,     /* `value`: ILS course or glide, one division of the count by 10240 or 5120 */
-    LAMPCYGNET_UNIT_NANOVOLTS = 3,            /* `whole`: MLS deviation, 73,200 a count */
+    LAMPCYGNET_UNIT_MILLIVOLTS = 3,           /* `value`: MLS deviation, exactly count x 75 / 1024 */
     LAMPCYGNET_UNIT_TENS_OF_KHZ = 4,          /* `whole`: a frequency */
     LAMPCYGNET_UNIT_SELECTED_DEGREES = 5,     /* `whole` and `manual`: the selected azimuth */
     LAMPCYGNET_UNIT_GREATEST_TENTHS = 6,      /* `whole`: the greatest glide angle, in tenths of a degree */

@@ -52,7 +52,7 @@ pub fn receiver_words(random: &mut Random, length: usize) -> Vec<u32> {
 /// Labels, sources and figures over the reach of each quantity.
 pub fn figures(random: &mut Random, length: usize) -> Vec<(u8, u8, i64)> {
     let reaches =
-        [(0o222, 360_000_000), (0o173, 400_000), (0o174, 800_000), (0o151, 2_398_000_000), (0o152, 2_398_000_000)];
+        [(0o222, 360_000_000), (0o173, 400_000), (0o174, 800_000), (0o151, 2_400_000_000), (0o152, 2_400_000_000)];
     let mut figure = || {
         let (label, reach) = reaches[random.below(5) as usize];
         let size = random.below(reach) as i64;
@@ -69,7 +69,7 @@ fn noted(word: u32) -> Option<(u8, i64)> {
         0x49 => short * 45.0 / 1024.0,
         0xDE => short / 10240.0,
         0x3E => short / 5120.0,
-        0x96 | 0x56 => long * 0.0732,
+        0x96 | 0x56 => long * 75.0 / 1024.0,
         _ => return None,
     };
     Some(((word as u8).reverse_bits(), (value * 1e6).round() as i64))

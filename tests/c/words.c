@@ -240,6 +240,8 @@ static void test_readings(void)
 {
     struct lampcygnet_reading r = lampcygnet_reading_of(UINT32_C(0xE8000049));
     struct lampcygnet_point p;
+    int kind;
+    long count;
     EXPECT(r.refusal == 0 && r.shown == LAMPCYGNET_SHOWN_READY && r.unit == LAMPCYGNET_UNIT_DEGREES && r.value == 90.0 && r.whole == 0);
     EXPECT(lampcygnet_reading_of(UINT32_C(0xFC000049)).value == -45.0);
     r = lampcygnet_reading_of(UINT32_C(0x640000DE));
@@ -249,7 +251,7 @@ static void test_readings(void)
     r = lampcygnet_reading_of(UINT32_C(0x040000DE));
     EXPECT(r.refusal == 0 && r.shown == LAMPCYGNET_SHOWN_NONE && r.unit == LAMPCYGNET_UNIT_NONE && r.value == 0.0);
     r = lampcygnet_reading_of(UINT32_C(0x60002096));
-    EXPECT(r.unit == LAMPCYGNET_UNIT_NANOVOLTS && r.whole == 73200 && r.value == 0.0);
+    EXPECT(r.unit == LAMPCYGNET_UNIT_MILLIVOLTS && r.value == 75.0 / 1024.0 && r.whole == 0);
     r = lampcygnet_reading_of(UINT32_C(0x04C80038));
     EXPECT(r.unit == LAMPCYGNET_UNIT_TENS_OF_KHZ && r.whole == 11320);
     r = lampcygnet_reading_of(UINT32_C(0xEB3C00D6));
@@ -258,6 +260,15 @@ static void test_readings(void)
     EXPECT(r.unit == LAMPCYGNET_UNIT_GREATEST_TENTHS && r.whole == 40 && r.manual == 0);
     r = lampcygnet_reading_of(UINT32_C(0xE8000048));
     EXPECT(r.refusal == LAMPCYGNET_REFUSED_PARITY && r.shown == 0 && r.unit == 0 && r.whole == 0 && r.value == 0.0);
+    /* every MLS count: a double holds both products exactly */
+    for (kind = LAMPCYGNET_KIND_MLS_AZIMUTH_DEVIATION; kind <= LAMPCYGNET_KIND_MLS_GLIDE_DEVIATION; kind++) {
+        struct lampcygnet_record mls = example((uint8_t)kind);
+        for (count = -32768; count < 32768; count++) {
+            mls.count = (int16_t)count;
+            r = lampcygnet_reading_of(lampcygnet_encode(mls).word);
+            EXPECT(r.shown == LAMPCYGNET_SHOWN_TEST && r.unit == LAMPCYGNET_UNIT_MILLIVOLTS && r.value * 1024.0 == count * 75.0 && r.whole == 0);
+        }
+    }
 
     p = lampcygnet_chart_point(lampcygnet_code_figure(0173, 1, 100000).word, lampcygnet_code_figure(0174, 1, -200000).word);
     EXPECT(p.refusal == 0 && p.course == 0.1 && p.glide == -0.2);
@@ -286,8 +297,18 @@ static void test_figures(void)
     EXPECT(lampcygnet_code_figure(0173, 0, -400049).refusal == LAMPCYGNET_REFUSED_REACH);
     EXPECT(codes_to(0174, 799902, 4095));
     EXPECT(lampcygnet_code_figure(0174, 0, 799903).refusal == LAMPCYGNET_REFUSED_REACH);
-    EXPECT(codes_to(0151, 36600, 0) && codes_to(0151, 109800, 2) && codes_to(0152, INT64_C(2398581000), 32767));
-    EXPECT(lampcygnet_code_figure(0152, 0, INT64_C(2398581001)).refusal == LAMPCYGNET_REFUSED_REACH);
+    for (i = 3; i < 5; i++) {
+        EXPECT(codes_to(labels[i], 36600, 0) && codes_to(labels[i], 109800, 1) && codes_to(labels[i], -109800, -1));
+        EXPECT(codes_to(labels[i], INT64_C(2399963378), 32767) && codes_to(labels[i], -INT64_C(2400036621), -32768));
+        EXPECT(lampcygnet_code_figure(labels[i], 0, INT64_C(2399963379)).refusal == LAMPCYGNET_REFUSED_REACH);
+        EXPECT(lampcygnet_code_figure(labels[i], 0, -INT64_C(2400036622)).refusal == LAMPCYGNET_REFUSED_REACH);
+        EXPECT(lampcygnet_print_count(labels[i], 1).millionths == 73242 && lampcygnet_print_count(labels[i], -1).millionths == -73242);
+        /* ties: 0.5859375 and 1.7578125 */
+        EXPECT(lampcygnet_print_count(labels[i], 8).millionths == 585938 && lampcygnet_print_count(labels[i], -8).millionths == -585938);
+        EXPECT(lampcygnet_print_count(labels[i], 24).millionths == 1757812 && lampcygnet_print_count(labels[i], -24).millionths == -1757812);
+        EXPECT(lampcygnet_print_count(labels[i], 16384).millionths == 1200000000);
+        EXPECT(lampcygnet_print_count(labels[i], -32768).millionths == -INT64_C(2400000000));
+    }
     EXPECT(codes_to(0222, 179980000, -4096) && codes_to(0222, 180000000, -4096) && codes_to(0222, 315000000, -1024));
     EXPECT(lampcygnet_code_figure(0222, 0, 360000000).refusal == LAMPCYGNET_REFUSED_REACH);
     EXPECT(lampcygnet_code_figure(0222, 0, INT64_MIN).refusal == LAMPCYGNET_REFUSED_REACH);

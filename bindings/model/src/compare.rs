@@ -101,7 +101,7 @@ fn exact(reading: Reading) -> (u8, u64, bool) {
     let (unit, bits) = match reading.value {
         Value::Degrees(double) => (0, double.to_bits()),
         Value::Depth(double) => (1, double.to_bits()),
-        Value::Nanovolts(whole) => (2, whole as u64),
+        Value::Millivolts(double) => (2, double.to_bits()),
         Value::Frequency(whole) => (3, whole as u64),
         Value::Setting(whole) => (4, whole as u64),
     };

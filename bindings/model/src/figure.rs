@@ -14,13 +14,14 @@ pub struct Quantity {
 }
 
 /// "the five quantities are 222, 173, 174, 151 and 152". "Steps: azimuth 45/1024 degree; course 1/10240 and glide 1/5120
-/// of modulation depth difference; MLS 0.0732 mV." "A legal count is any that its 13 or 16 bits hold."
+/// of modulation depth difference"; request 3 of 151 and 152: "From here the step is exactly 75/1024 mV". "A legal count is any
+/// that its 13 or 16 bits hold."
 pub const QUANTITIES: [Quantity; 5] = [
     quantity(0o222, 45_000_000, 1024, 13, true),
     quantity(0o173, 1_000_000, 10240, 13, false),
     quantity(0o174, 1_000_000, 5120, 13, false),
-    quantity(0o151, 73_200, 1, 16, false),
-    quantity(0o152, 73_200, 1, 16, false),
+    quantity(0o151, 75_000_000, 1024, 16, false),
+    quantity(0o152, 75_000_000, 1024, 16, false),
 ];
 
 const fn quantity(label: u8, numerator: i128, denominator: i128, width: u32, circle: bool) -> Quantity {

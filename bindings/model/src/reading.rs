@@ -2,12 +2,13 @@
 
 use crate::word::{self, Body, Record, READY, TEST};
 
-/// "A reading is degrees, depth difference, nanovolts, frequency or a setting, never a bare number."
+/// "A reading is degrees, depth difference, nanovolts, frequency or a setting, never a bare number"; request 3: "the
+/// whole-nanovolt reading becomes a double".
 #[derive(Clone, Copy, Debug, PartialEq)]
 pub enum Value {
     Degrees(f64),
     Depth(f64),
-    Nanovolts(i64),
+    Millivolts(f64),
     Frequency(i64),
     Setting(i64),
 }
@@ -20,8 +21,8 @@ pub struct Reading {
 }
 
 /// "Its reading exists exactly under ready and test (test is marked); parts have none. For 222 the reading is a double,
-/// exactly count x 45 / 1024 degrees; for 173 and 174 a double, one division of the count by 10240 or 5120. MLS deviations
-/// read as whole nanovolts, 73,200 a count; frequencies as whole tens of kHz."
+/// exactly count x 45 / 1024 degrees; for 173 and 174 a double, one division of the count by 10240 or 5120." "frequencies as
+/// whole tens of kHz." Request 3 of 151 and 152: "a double, exactly count x 75 / 1024 mV."
 pub fn reading(record: &Record) -> Option<Reading> {
     let status = word::status_of(record)?;
     if status != READY && status != TEST {
@@ -31,7 +32,9 @@ pub fn reading(record: &Record) -> Option<Reading> {
         Body::VorAzimuth { count, .. } => Value::Degrees((count * 45) as f64 / 1024.0),
         Body::IlsCourse { count, .. } => Value::Depth(count as f64 / 10240.0),
         Body::IlsGlide { count, .. } => Value::Depth(count as f64 / 5120.0),
-        Body::MlsAzimuth { count, .. } | Body::MlsGlide { count, .. } => Value::Nanovolts(count * 73_200),
+        Body::MlsAzimuth { count, .. } | Body::MlsGlide { count, .. } => {
+            Value::Millivolts((count * 75) as f64 / 1024.0)
+        }
         Body::VorFrequency { frequency, .. }
         | Body::IlsFrequency { frequency, .. }
         | Body::MlsFrequency { frequency, .. } => Value::Frequency(frequency),

@@ -45,17 +45,11 @@ fn figures() {
         (0o173, -400_049, false),
         (0o174, 799_902, true),
         (0o174, 799_903, false),
-        (0o151, 2_398_581_000, true),
-        (0o151, 2_398_581_001, false),
     ] {
         let answer = code(label, 0, millionths);
         assert_eq!(answer.is_ok(), coded, "{label:03o} {millionths}");
         assert!(answer.is_ok() || answer == Err(8));
     }
-    assert_eq!(count(code(0o151, 0, 36_600)), Ok(0));
-    assert_eq!(count(code(0o152, 0, 109_800)), Ok(2));
-    assert_eq!(count(code(0o152, 0, -109_800)), Ok(-2));
-    assert_eq!(count(code(0o151, 0, 2_398_581_000)), Ok(32_767));
     assert_eq!(count(code(0o222, 0, 179_980_000)), Ok(-4096));
     assert_eq!(count(code(0o222, 0, 180_000_000)), Ok(-4096));
     assert_eq!(count(code(0o222, 0, 315_000_000)), Ok(-1024));
@@ -63,6 +57,29 @@ fn figures() {
     assert_eq!(count(code(0o222, 0, 359_990_000)), Ok(0));
     assert_eq!(count(code(0o222, 0, -180_000_000)), Ok(-4096));
     assert_eq!(code(0o222, 0, -180_000_001), Err(8));
+}
+
+/// Request 3: "The figure 2399963378 is coded and 2399963379 refused; -2400036621 is coded and -2400036622 refused." Document 01's
+/// ties are none with this step.
+#[test]
+fn mls_figures() {
+    for label in [0o151, 0o152] {
+        for (millionths, answer) in [
+            (36_600, Ok(0)),
+            (-36_600, Ok(0)),
+            (109_800, Ok(1)),
+            (-109_800, Ok(-1)),
+            (1_200_000_000, Ok(16_384)),
+            (2_399_963_378, Ok(32_767)),
+            (2_399_963_379, Err(8)),
+            (-2_400_036_621, Ok(-32_768)),
+            (-2_400_036_622, Err(8)),
+        ] {
+            assert_eq!(count(code(label, 0, millionths)), answer, "{label:03o} {millionths}");
+        }
+    }
+    assert_eq!(value(0x6000_2096), Value::Millivolts(75.0 / 1024.0));
+    assert_eq!(value(code(0o152, 1, -2_400_000_000).unwrap()), Value::Millivolts(-2400.0));
 }
 
 #[test]
@@ -79,6 +96,18 @@ fn printing_ties() {
     assert_eq!(print_text(0o222, 24).unwrap(), "1.054688");
     assert_eq!(print_text(0o222, -8).unwrap(), "-0.351562");
     assert_eq!(print_text(0o222, 4095).unwrap(), "179.956055");
+    for (label, count, text) in [
+        (0o151, 8, "0.585938"),
+        (0o152, -8, "-0.585938"),
+        (0o151, 24, "1.757812"),
+        (0o152, -24, "-1.757812"),
+        (0o151, 1, "0.073242"),
+        (0o152, 16_384, "1200.000000"),
+        (0o151, 32_767, "2399.926758"),
+        (0o152, -32_768, "-2400.000000"),
+    ] {
+        assert_eq!(print_text(label, count).unwrap(), text);
+    }
     assert_eq!(print_text(0o153, 0), None);
     assert_eq!(print_text(0o173, 4096), None);
 }

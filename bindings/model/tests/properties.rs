@@ -2,9 +2,9 @@
 
 use model::compare::{self, Model, Subject};
 use model::explain;
-use model::figure::{quantity_of, QUANTITIES};
+use model::figure::{measured_record, quantity_of, QUANTITIES};
 use model::generate::{self, Random};
-use model::reading::{self, Reading};
+use model::reading::{self, Reading, Value};
 use model::sheet::{self, Content, Field, LIMIT};
 use model::summary::{self, Summary};
 use model::word::{self, Body, READY, TEST};
@@ -86,6 +86,36 @@ fn coding_is_monotone_on_a_line() {
             }
         }
         assert_eq!(last, quantity.greatest);
+    }
+}
+
+/// "no MLS figure is then a tie": half-way between two counts, and half a step past the first and the last, lies no whole number of
+/// millionths; the figures beside it have the counts on its two sides.
+#[test]
+fn no_mls_figure_is_a_tie() {
+    for quantity in [0o151, 0o152].map(|label| quantity_of(label).unwrap()) {
+        let legal = |count: i128| (quantity.least..=quantity.greatest).contains(&count).then_some(count);
+        for count in quantity.least - 1..=quantity.greatest {
+            let (half_way, whole) = ((2 * count + 1) * quantity.numerator, 2 * quantity.denominator);
+            assert_ne!(half_way.rem_euclid(whole), 0, "{count}");
+            let below = half_way.div_euclid(whole);
+            assert_eq!(quantity.nearest(below), legal(count));
+            assert_eq!(quantity.nearest(below + 1), legal(count + 1));
+        }
+    }
+}
+
+/// "a double, exactly count x 75 / 1024 mV", both multiplied by 1024: a double holds both products exactly.
+#[test]
+fn mls_readings_are_exact() {
+    for label in [0o151, 0o152] {
+        for count in -32_768..=32_767 {
+            let reading = reading::reading(&measured_record(label, 0, count).unwrap());
+            let Some(Reading { value: Value::Millivolts(value), test: false }) = reading else {
+                panic!("{label:03o} {count}: {reading:?}");
+            };
+            assert_eq!((value * 1024.0).to_bits(), ((count * 75) as f64).to_bits(), "{label:03o} {count}");
+        }
     }
 }
 
@@ -337,10 +367,10 @@ fn the_model_agrees_with_itself() {
 struct Wrong;
 
 impl Subject for Wrong {
-    /// Ties to the odd count.
+    /// The last figure before a half step goes to the next count.
     fn code(&self, label: u8, source: u8, millionths: i64) -> Result<u32, u8> {
         match millionths {
-            36_600 => model::code(label, source, 36_601),
+            36_621 => model::code(label, source, 36_622),
             _ => model::code(label, source, millionths),
         }
     }
@@ -397,8 +427,8 @@ impl Subject for Wrong {
 
 #[test]
 fn comparison_finds_differences() {
-    assert!(compare::figure(&Wrong, 0o151, 0, 36_600).is_err());
-    assert!(compare::figure(&Wrong, 0o151, 0, 36_599).is_ok());
+    assert!(compare::figure(&Wrong, 0o151, 0, 36_621).is_err());
+    assert!(compare::figure(&Wrong, 0o151, 0, 36_620).is_ok());
     let word = |body| encode(&word::Record { source: 0, body }).unwrap();
     let course = word(Body::IlsCourse { status: READY, inhibit: false, count: 1 });
     let glide = |count| word(Body::IlsGlide { status: READY, inhibit: false, count });

@@ -36,7 +36,8 @@ fn words() {
 
 #[test]
 fn figures() {
-    for line in lines("test_figures/data/figures.txt", 600) {
+    let figures = lines("test_figures/data/figures.txt", 1100);
+    for line in figures.into_iter().chain(lines("test_figures/data/mls.txt", 182)) {
         let label = u8::from_str_radix(&line[0], 8).unwrap();
         let answer = match model::code(label, line[1].parse().unwrap(), line[2].parse().unwrap()) {
             Ok(word) => format!("{word:08X}"),
@@ -51,7 +52,7 @@ fn explanations() {
     const NAMES: [&str; 9] =
         ["agrees", "tenth", "hundredth", "thousandth", "ten", "hundred", "thousand", "sign", "none"];
     let mut told = [0; 9];
-    for line in lines("test_explain/data/explain.txt", 500) {
+    for line in lines("test_explain/data/explain.txt", 800) {
         let answer = match model::explain(hex(&line[0]), line[1].parse().unwrap()) {
             Ok(reason) => {
                 told[usize::from(reason) - 1] += 1;
@@ -119,7 +120,7 @@ fn sheets() {
         fs::read_dir(data("test_sheets/data/sheets")).unwrap().map(|entry| entry.unwrap().path()).collect();
     names.retain(|name| name.extension().is_some_and(|extension| extension == "bin"));
     names.sort();
-    assert!(names.len() >= 80, "{} sheets", names.len());
+    assert!(names.len() >= 81, "{} sheets", names.len());
     for name in names {
         let expected = fs::read_to_string(name.with_extension("txt")).unwrap();
         assert_eq!(model::list(&fs::read(&name).unwrap()), expected, "{}", name.display());

@@ -22,6 +22,7 @@ pub fn code_figure(label: u8, source: u8, millionths: i64) -> Result<u32, Refusa
 ///
 /// ```
 /// assert_eq!(lampcygnet::print_count(0o173, -1), Ok(-98));
+/// assert_eq!(lampcygnet::print_count(0o151, 8), Ok(585_938)); // exactly 0.5859375 mV
 /// ```
 pub fn print_count(label: u8, count: i16) -> Result<i64, Refusal> {
     // The function takes every number and writes to no memory.

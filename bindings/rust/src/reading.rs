@@ -10,8 +10,8 @@ pub enum Reading {
     Degrees(f64),
     /// ILS course or glide: one division of the count by 10240 or 5120.
     DepthDifference(f64),
-    /// MLS deviation: 73,200 a count.
-    Nanovolts(i64),
+    /// MLS deviation: exactly count x 75 / 1024.
+    Millivolts(f64),
     /// A frequency in tens of kHz.
     TensOfKhz(i64),
     /// The selected azimuth in degrees, and whether it was set by hand.
@@ -45,6 +45,7 @@ pub struct ChartPoint {
 /// use lampcygnet::{reading, Reading, Shown};
 ///
 /// assert_eq!(reading(0xFC000049), Ok(Shown::Ready(Reading::Degrees(-45.0))));
+/// assert_eq!(reading(0x60002096), Ok(Shown::Ready(Reading::Millivolts(75.0 / 1024.0))));
 /// assert_eq!(reading(0xA40000DE), Ok(Shown::Absent));
 /// ```
 pub fn reading(word: u32) -> Result<Shown, Refusal> {
@@ -65,7 +66,7 @@ impl Shown {
         Ok(shown(match n.unit {
             1 => Reading::Degrees(n.value),
             2 => Reading::DepthDifference(n.value),
-            3 => Reading::Nanovolts(n.whole),
+            3 => Reading::Millivolts(n.value),
             4 => Reading::TensOfKhz(n.whole),
             5 => Reading::SelectedDegrees(n.whole, flag(n.manual)?),
             6 => Reading::GreatestTenths(n.whole),
@@ -106,7 +107,7 @@ impl fmt::Display for Reading {
         match *self {
             Reading::Degrees(value) => write!(f, "{value} degrees"),
             Reading::DepthDifference(value) => write!(f, "{value} depth difference"),
-            Reading::Nanovolts(whole) => write!(f, "{whole} nV"),
+            Reading::Millivolts(value) => write!(f, "{value} mV"),
             Reading::TensOfKhz(whole) => write!(f, "{}.{:02} MHz", whole / 100, whole % 100),
             Reading::SelectedDegrees(whole, manual) => write!(f, "{whole} degrees selected{}", by_hand(manual)),
             Reading::GreatestTenths(whole) => write!(f, "{}.{} degrees at most", whole / 10, whole % 10),
@@ -144,9 +145,21 @@ mod tests {
         let read = |shown, unit, manual| Shown::from_numbers(numbers(shown, unit, manual));
         assert_eq!(read(0, 0, 0), Ok(Shown::Absent));
         assert_eq!(read(2, 1, 0), Ok(Shown::Test(Reading::Degrees(0.5))));
+        assert_eq!(read(1, 3, 0), Ok(Shown::Ready(Reading::Millivolts(0.5))));
         assert_eq!(read(1, 5, 1), Ok(Shown::Ready(Reading::SelectedDegrees(4, true))));
         for (shown, unit, manual) in [(3, 1, 0), (1, 0, 0), (1, 8, 0), (1, 5, 2), (2, 7, 9)] {
             assert_eq!(read(shown, unit, manual), Err(Refusal::Unknown));
+        }
+    }
+
+    #[test]
+    fn a_reading_is_shown_with_its_unit() {
+        for (reading, text) in [
+            (Reading::Degrees(-45.0), "-45 degrees"),
+            (Reading::DepthDifference(0.1), "0.1 depth difference"),
+            (Reading::Millivolts(75.0 / 1024.0), "0.0732421875 mV"),
+        ] {
+            assert_eq!(reading.to_string(), text);
         }
     }
 }

@@ -573,8 +573,8 @@ fn summary_of_the_example() {
         sum: count.into(),
         ..all
     };
-    assert_eq!(summarize(&flight, 0o151, 2), one(171)); // 12.5172 mV
-    assert_eq!(summarize(&flight, 0o152, 2), one(-112)); // -8.1984 mV
+    assert_eq!(summarize(&flight, 0o151, 2), one(171)); // 12.524414 mV
+    assert_eq!(summarize(&flight, 0o152, 2), one(-112)); // -8.203125 mV
     let none = ffi::Summary { other: 20, ..all };
     for (label, source) in [(0o173, 0), (0o173, 2), (0o174, 3), (0o151, 1), (0o152, 0)] {
         assert_eq!(summarize(&flight, label, source), none);

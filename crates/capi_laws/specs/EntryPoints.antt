@@ -299,7 +299,7 @@ decode-tells (Decoded.Refused f) = when-refused _ _ (λ f p. refl) f 0
 reading-0 : (n : ℕ) (r : Reading) → flatReading n r .refusal ≡ 0
 reading-0 n (Reading.Degrees x) = refl
 reading-0 n (Reading.DepthDifference x) = refl
-reading-0 n (Reading.Nanovolts z) = refl
+reading-0 n (Reading.Millivolts x) = refl
 reading-0 n (Reading.Frequency f) = refl
 reading-0 n (Reading.Setting (Setting.SelectedAzimuth m d)) = refl
 reading-0 n (Reading.Setting (Setting.GreatestGlideAngle t)) = refl

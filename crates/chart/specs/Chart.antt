@@ -22,7 +22,7 @@ isKind kind wanted = eqb (placeOf kind) (placeOf wanted)
 abbrev pub differenceIn : Reading → Difference
 differenceIn (Reading.Degrees x) = Difference.Absent
 differenceIn (Reading.DepthDifference x) = Difference.Of x
-differenceIn (Reading.Nanovolts n) = Difference.Absent
+differenceIn (Reading.Millivolts x) = Difference.Absent
 differenceIn (Reading.Frequency f) = Difference.Absent
 differenceIn (Reading.Setting s) = Difference.Absent
 

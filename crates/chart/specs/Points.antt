@@ -141,7 +141,7 @@ chart-order first second = chart-follows first second _ _ _ (λ k. k, λ k. k) (
 difference-in : (reading : Reading) (x : Float) → differenceIn reading ≡ Difference.Of x → reading ≡ Reading.DepthDifference x
 difference-in (Reading.Degrees y) x e = cc
 difference-in (Reading.DepthDifference y) x e = cc
-difference-in (Reading.Nanovolts n) x e = cc
+difference-in (Reading.Millivolts y) x e = cc
 difference-in (Reading.Frequency f) x e = cc
 difference-in (Reading.Setting s) x e = cc
 

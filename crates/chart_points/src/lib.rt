@@ -30,7 +30,7 @@ fn difference_in(reading: Reading) -> Difference
     match reading {
         Reading::Degrees(_) => Difference::Absent,
         Reading::DepthDifference(x) => Difference::Of(x),
-        Reading::Nanovolts(_) => Difference::Absent,
+        Reading::Millivolts(_) => Difference::Absent,
         Reading::Frequency(_) => Difference::Absent,
         Reading::Setting(_) => Difference::Absent,
     }

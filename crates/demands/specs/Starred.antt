@@ -1,4 +1,5 @@
--- Document 01's starred lines, words and figures, each with its record, its count or its refusal: one table, proved by one computed equation.
+-- Document 01's starred lines, words and figures, with request 3's in place of the MLS figures that it withdraws, each with its record, its count
+-- or its refusal: one table, proved by one computed equation.
 -- Assumes nothing.
 use mathlib.Core.Path.{_≡_, refl}
 use mathlib.Core.Bool.{true, false}
@@ -71,15 +72,20 @@ starred =
     ∷ (word 0xE1400036 gives refused 7)
     -- the first word with bit 1 lost
     ∷ (word 0xE8000048 gives refused 1)
-    -- MLS 36600 gives count 0, 109800 gives 2; 2398581000 is coded, 2398581001 refused
+    -- request 3, in place of the MLS lines that it withdraws: 2399963378 is coded, 2399963379 refused; -2400036621 is coded, -2400036622 refused;
+    -- and 36600 and 109800, the ties of the step in print, now lie nearer to 0 and to 1
     ∷ (figure 0o151 (pos 36600) gives count (pos 0))
-    ∷ (figure 0o151 (pos 109800) gives count (pos 2))
-    ∷ (figure 0o151 (pos 2398581000) gives count (pos 32767))
-    ∷ (figure 0o151 (pos 2398581001) gives refused 8)
+    ∷ (figure 0o151 (pos 109800) gives count (pos 1))
+    ∷ (figure 0o151 (pos 2399963378) gives count (pos 32767))
+    ∷ (figure 0o151 (pos 2399963379) gives refused 8)
+    ∷ (figure 0o151 (negℤ (pos 2400036621)) gives count (negℤ (pos 32768)))
+    ∷ (figure 0o151 (negℤ (pos 2400036622)) gives refused 8)
     ∷ (figure 0o152 (pos 36600) gives count (pos 0))
-    ∷ (figure 0o152 (pos 109800) gives count (pos 2))
-    ∷ (figure 0o152 (pos 2398581000) gives count (pos 32767))
-    ∷ (figure 0o152 (pos 2398581001) gives refused 8)
+    ∷ (figure 0o152 (pos 109800) gives count (pos 1))
+    ∷ (figure 0o152 (pos 2399963378) gives count (pos 32767))
+    ∷ (figure 0o152 (pos 2399963379) gives refused 8)
+    ∷ (figure 0o152 (negℤ (pos 2400036621)) gives count (negℤ (pos 32768)))
+    ∷ (figure 0o152 (negℤ (pos 2400036622)) gives refused 8)
     -- azimuth 179.98 and 180 give -4096; 315 gives -1024; 360 is refused 8
     ∷ (figure 0o222 (pos 179980000) gives count (negℤ (pos 4096)))
     ∷ (figure 0o222 (pos 180000000) gives count (negℤ (pos 4096)))

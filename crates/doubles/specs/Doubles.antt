@@ -18,6 +18,10 @@ use Rattle.doubles.specs.Rounded.{odd-pos, round-nearest}
 abbrev pub degreesOf : ℤ → Float
 degreesOf = scaledOf 45 1024
 
+-- MLS deviation in millivolts: count × 75 / 1024
+abbrev pub millivoltsOf : ℤ → Float
+millivoltsOf = scaledOf 75 1024
+
 -- count / divisor: one division of the count as a double
 abbrev pub quotientOf : ℕ → ℤ → Float
 quotientOf divisor count = div binary64 (double count) (double (pos divisor))
@@ -30,7 +34,7 @@ courseOf = quotientOf 10240
 abbrev pub glideOf : ℤ → Float
 glideOf = quotientOf 5120
 
--- ---- the azimuth is exact
+-- ---- the azimuth and the MLS deviations are exact
 
 pub degrees-exact : (count : ℤ) → IsCount count → IsExactly (degreesOf count) (count *ℤ pos 45) 1024
 degrees-exact = scaled-exact 45 (lit< tt) (lit< tt)
@@ -38,6 +42,13 @@ degrees-exact = scaled-exact 45 (lit< tt) (lit< tt)
 -- Different counts have different azimuths.
 pub degrees-injective : (a b : ℤ) → IsCount a → IsCount b → degreesOf a ≡ degreesOf b → a ≡ b
 degrees-injective = scaled-injective 45 (lit< tt) (lit< tt)
+
+pub millivolts-exact : (count : ℤ) → IsCount count → IsExactly (millivoltsOf count) (count *ℤ pos 75) 1024
+millivolts-exact = scaled-exact 75 (lit< tt) (lit< tt)
+
+-- Different counts have different deviations.
+pub millivolts-injective : (a b : ℤ) → IsCount a → IsCount b → millivoltsOf a ≡ millivoltsOf b → a ≡ b
+millivolts-injective = scaled-injective 75 (lit< tt) (lit< tt)
 
 -- ---- course and glide are rounded once
 
@@ -81,3 +92,12 @@ course-of-1024 = refl
 glide-of-2048 : glideOf (pos 2048) ≡ ofBits binary64 0x3fd9_9999_9999_999a
 unfolding div ofInt ofBits
 glide-of-2048 = refl
+
+-- MLS count 16384, which bit 28 alone makes, is 1200 mV, and the least count is -2400 mV.
+millivolts-of-16384 : millivoltsOf (pos 16384) ≡ double (pos 1200)
+unfolding div mul ofInt
+millivolts-of-16384 = refl
+
+millivolts-of-minus-32768 : millivoltsOf (negsuc 32767) ≡ double (negsuc 2399)
+unfolding div mul ofInt
+millivolts-of-minus-32768 = refl

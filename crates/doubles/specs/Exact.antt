@@ -2,7 +2,7 @@
 -- Assumes nothing.
 use mathlib.Core.Path.{_≡_, refl, sym, ap, _∙_, subst}
 use Prim.Native.Nat.{ℕ, zero, suc, _+_, _-_, _*_, _^_, _≤_, _<_}
-use native.Mathlib.Nat.{le-trans, le-of-lt, lt-of-le-of-lt, lt-of-lt-of-le, lt-irrefl, mul-one, mul-assoc, mul-comm, mul-left-comm, mul-mul-mul-comm, mul-le-mul, mul-pos, zero-mul, zero-lt-suc, eq-of-mul-eq-mul-right, suc-inj}
+use native.Mathlib.Nat.{le-trans, le-of-lt, lt-of-le-of-lt, lt-of-lt-of-le, lt-irrefl, mul-one, mul-assoc, mul-comm, mul-left-comm, mul-right-comm, mul-mul-mul-comm, mul-le-mul, mul-pos, zero-mul, zero-lt-suc, eq-of-mul-eq-mul-right, suc-inj}
 use native.Mathlib.Omega.{arith}
 use mathlib.Core.Bool.{Bool, true, false, cond, true≢false, false≢true}
 use lib.Dec.{eqb, eqb·suc-zero, lit≤, lit<}
@@ -110,6 +110,18 @@ product-cancel n j k h e =
     let p = sign-and-size n k h in
     let q = sign-and-size j k h in
     same-whole n j (sym (p .0) ∙ ap negative e ∙ q .0) (eq-of-mul-eq-mul-right k h (natAbs n) (natAbs j) (sym (p .1) ∙ ap natAbs e ∙ q .1))
+
+-- A fraction may be expanded.
+pub exact-expanded : (x : Float) (n : ℤ) (k d j : ℕ) → 0 < k → 0 < j → IsExactly x (n *ℤ pos k) d → IsExactly x (n *ℤ pos (k * j)) (d * j)
+exact-expanded (fin s m e) n k d j h i p =
+    let y = sign-and-size n k h in
+    let z = sign-and-size n (k * j) (mul-pos h i) in (
+      p .0 ∙ y .0 ∙ sym (z .0),
+      sym (mul-assoc (m * up e) d j)
+          ∙ ap (λ (t : ℕ). t * j) (p .1 ∙ ap (λ (t : ℕ). t * down e) (y .1))
+          ∙ mul-right-comm (natAbs n * k) (down e) j
+          ∙ ap (λ (t : ℕ). t * down e) (mul-assoc (natAbs n) k j ∙ sym (z .1)),
+    )
 
 -- A product of whole numbers that is at most 2 ^ 53 in size is exact.
 pub product-exact : (x : Float) (n : ℤ) (k : ℕ) → 0 < k → k ≤ 2 ^ 53 → natAbs n * k ≤ 2 ^ 53 → IsExactly x n 1 → IsExactly (mul binary64 x (double (pos k))) (n *ℤ pos k) 1

@@ -1,12 +1,13 @@
-// The doubles of readings: a count as degrees or as depth difference, in f64.
+// The doubles of readings: a count as degrees, as depth difference or as millivolts, in f64.
 use records::AzimuthCount;
 use records::CourseCount;
 use records::GlideCount;
+use records::MlsCount;
 ghost use mathlib.Core.Path.{_≡_};
 ghost use lib.IntN.{pos, _*ℤ_};
 ghost use Rattle.doubles.specs.Exact.{IsExactly};
 ghost use Rattle.doubles.specs.Nearest.{IsNearest};
-ghost use Rattle.doubles.specs.Doubles.{degreesOf, courseOf, glideOf};
+ghost use Rattle.doubles.specs.Doubles.{degreesOf, courseOf, glideOf, millivoltsOf};
 
 // VOR azimuth of a count, in degrees: exactly count x 45 / 1024.
 pub fn azimuth_degrees(count: AzimuthCount) -> f64
@@ -33,4 +34,13 @@ pub fn glide_difference(count: GlideCount) -> f64
 {
     let number = count.0;
     (number as f64) / 5120.0
+}
+
+// MLS deviation of a count, in millivolts: exactly count x 75 / 1024.
+pub fn mls_millivolts(count: MlsCount) -> f64
+    ensures operations { λ r. ⌜ r ≡ millivoltsOf (count .0) ⌝ }
+    ensures value { λ r. ⌜ IsExactly r (count .0 *ℤ pos 75) 1024 ⌝ }
+{
+    let number = count.0;
+    (number as f64) * 75.0 / 1024.0
 }

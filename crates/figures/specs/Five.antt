@@ -22,14 +22,14 @@ abbrev row : ℕ → ℕ → ℕ → ℕ → ℕ → Row
 row label numerator denominator below above =
     record { label = label; numerator = numerator; denominator = denominator; below = below; above = above }
 
--- 45/1024 degree; 1/10240 and 1/5120 of modulation depth difference; 0.0732 mV, twice
+-- 45/1024 degree; 1/10240 and 1/5120 of modulation depth difference; 75/1024 mV, twice
 abbrev pub table : Assignment → List Row
 table a =
     row (a .label Kind.VorAzimuth) 45000000 1024 4096 4095
     ∷ row (a .label Kind.IlsCourse) 1000000 10240 4096 4095
     ∷ row (a .label Kind.IlsGlide) 1000000 5120 4096 4095
-    ∷ row (a .label Kind.MlsAzimuthDeviation) 73200 1 32768 32767
-    ∷ row (a .label Kind.MlsGlideDeviation) 73200 1 32768 32767
+    ∷ row (a .label Kind.MlsAzimuthDeviation) 75000000 1024 32768 32767
+    ∷ row (a .label Kind.MlsGlideDeviation) 75000000 1024 32768 32767
     ∷ []
 
 -- what is in use

@@ -9,6 +9,7 @@ use Rattle.refusals.specs.declared.Refusal.{Refusal}
 use Rattle.labels.specs.Assignment.{Assignment, document01}
 use Rattle.encode.specs.Encode.{wordAs}
 use Rattle.encode.specs.declared.Encoded.{Encoded}
+use Rattle.quantities.specs.Mls.{IsMls, OffMls, mls-reach}
 use Rattle.quantities.specs.Scale.{scaleOf}
 use Rattle.quantities.specs.Nearest.{nearestCount, millionthsOf}
 use Rattle.quantities.specs.Statements.{LegalCount, Beyond, Coded}
@@ -26,11 +27,23 @@ module _ (a : Assignment) where
       (λ e. absurd (let z : _≡_ {A = ℕ} 0 1 = cc in omega arith), λ e. absurd (let z : _≡_ {A = ℕ} 0 1 = cc in omega arith))
   refused-reach q label source Nearest.OutOfReach = (λ e. refl, λ e. refl)
 
+  out-of-reach : (q : Quantity) (source : ℕ) → source ≤ 3 → (figure : ℤ) → (codedWith a (labelFor a q) source figure ≡ Encoded.Refused Refusal.Reach) ↔ (nearestCount q figure ≡ Nearest.OutOfReach)
+  out-of-reach q source s figure = (
+    λ e. refused-reach q (labelFor a q) source (nearestCount q figure) .0 (sym (coded-nearest a q source figure s) ∙ e),
+    λ e. coded-nearest a q source figure s ∙ refused-reach q (labelFor a q) source (nearestCount q figure) .1 e,
+  )
+
   -- a figure is refused 8 exactly when it is out of reach
   refused : (q : Quantity) (source : ℕ) → source ≤ 3 → (figure : ℤ) → (codedWith a (labelFor a q) source figure ≡ Encoded.Refused Refusal.Reach) ↔ Beyond q figure
   refused q source s figure = (
-    λ e. Quantities.refused q figure .0 (refused-reach q (labelFor a q) source (nearestCount q figure) .0 (sym (coded-nearest a q source figure s) ∙ e)),
-    λ h. coded-nearest a q source figure s ∙ refused-reach q (labelFor a q) source (nearestCount q figure) .1 (Quantities.refused q figure .1 h),
+    λ e. Quantities.refused q figure .0 (out-of-reach q source s figure .0 e),
+    λ h. out-of-reach q source s figure .1 (Quantities.refused q figure .1 h),
+  )
+
+  off-mls : (q : Quantity) → IsMls q → (source : ℕ) → source ≤ 3 → (figure : ℤ) → (codedWith a (labelFor a q) source figure ≡ Encoded.Refused Refusal.Reach) ↔ OffMls figure
+  off-mls q m source s figure = (
+    λ e. mls-reach q m figure .0 (out-of-reach q source s figure .0 e),
+    λ h. out-of-reach q source s figure .1 (mls-reach q m figure .1 h),
   )
 
   -- under a legal source the nearest count is coded
@@ -82,12 +95,16 @@ module _ (a : Assignment) where
         bit-28-azimuth = refl;
         bit-28-course = refl;
         bit-28-glide = refl;
+        bit-28-mls = λ q. elim [ inl e ↦ rw e refl | inr e ↦ rw e refl ];
+        bit-14-mls = λ q. elim [ inl e ↦ rw e refl | inr e ↦ rw e refl ];
         deviation-refused = λ q line source s figure. rw line at (refused q source s figure);
+        mls-refused = off-mls;
         azimuth-refused = λ source s figure. refused Quantity.Azimuth source s figure;
         rest-coded = answered;
         legal = λ q source s figure w e. nearest q source s figure w e .legal;
         none-nearer = λ q source s figure w e. nearest q source s figure w e .nearest;
         even-if-tied = λ q source s figure w e. nearest q source s figure w e .even;
+        untied = λ q source s figure w e. Quantities.untied q figure (countBits q w) (word-given q source s figure w e .1);
         distance = Quantities.away;
         one-distance = Quantities.away-once;
         printed = Quantities.printed;

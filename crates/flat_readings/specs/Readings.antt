@@ -33,11 +33,11 @@ flatSetting shown (Setting.SelectedAzimuth manual degrees) = whole shown 5 (flag
 flatSetting shown (Setting.GreatestGlideAngle tenths) = whole shown 6 0 (pos tenths)
 flatSetting shown (Setting.SelectedGlideAngle manual tenths) = whole shown 7 (flagBit manual) (pos tenths)
 
--- 1 degrees, 2 depth difference, 3 nanovolts, 4 tens of kHz, 5 to 7 a setting
+-- 1 degrees, 2 depth difference, 3 millivolts, 4 tens of kHz, 5 to 7 a setting
 abbrev pub flatReading : ℕ → Reading → FlatReading
 flatReading shown (Reading.Degrees x) = rounded shown 1 x
 flatReading shown (Reading.DepthDifference x) = rounded shown 2 x
-flatReading shown (Reading.Nanovolts n) = whole shown 3 0 n
+flatReading shown (Reading.Millivolts x) = rounded shown 3 x
 flatReading shown (Reading.Frequency f) = whole shown 4 0 (pos f)
 flatReading shown (Reading.Setting s) = flatSetting shown s
 
@@ -66,7 +66,7 @@ abbrev pub readingFrom : FlatReading → Reading
 readingFrom f =
     cond (eqb (f .unit) 1) (Reading.Degrees (f .value))
     (cond (eqb (f .unit) 2) (Reading.DepthDifference (f .value))
-    (cond (eqb (f .unit) 3) (Reading.Nanovolts (f .whole))
+    (cond (eqb (f .unit) 3) (Reading.Millivolts (f .value))
     (cond (eqb (f .unit) 4) (Reading.Frequency (natAbs (f .whole)))
     (cond (eqb (f .unit) 5) (Reading.Setting (Setting.SelectedAzimuth (eqb (f .manual) 1) (natAbs (f .whole))))
     (cond (eqb (f .unit) 6) (Reading.Setting (Setting.GreatestGlideAngle (natAbs (f .whole))))
@@ -78,7 +78,7 @@ shownFrom f = cond (eqb (f .shown) 1) (Shown.Ready (readingFrom f)) (cond (eqb (
 reading-back : (n : ℕ) (r : Reading) → readingFrom (flatReading n r) ≡ r
 reading-back n (Reading.Degrees x) = refl
 reading-back n (Reading.DepthDifference x) = refl
-reading-back n (Reading.Nanovolts z) = refl
+reading-back n (Reading.Millivolts x) = refl
 reading-back n (Reading.Frequency f) = refl
 reading-back n (Reading.Setting (Setting.SelectedAzimuth false d)) = refl
 reading-back n (Reading.Setting (Setting.SelectedAzimuth true d)) = refl
@@ -89,7 +89,7 @@ reading-back n (Reading.Setting (Setting.SelectedGlideAngle true t)) = refl
 shown-as : (n : ℕ) (r : Reading) → flatReading n r .shown ≡ n
 shown-as n (Reading.Degrees x) = refl
 shown-as n (Reading.DepthDifference x) = refl
-shown-as n (Reading.Nanovolts z) = refl
+shown-as n (Reading.Millivolts x) = refl
 shown-as n (Reading.Frequency f) = refl
 shown-as n (Reading.Setting (Setting.SelectedAzimuth m d)) = refl
 shown-as n (Reading.Setting (Setting.GreatestGlideAngle t)) = refl

@@ -14,13 +14,13 @@ pub struct FlatReading {
     pub refusal: u8,
     // 0 no reading, 1 ready, 2 test
     pub shown: u8,
-    // 0 none, 1 degrees, 2 depth difference, 3 nanovolts, 4 tens of kHz,
+    // 0 none, 1 degrees, 2 depth difference, 3 millivolts, 4 tens of kHz,
     // 5 degrees selected, 6 tenths of a degree sent as the greatest, 7 tenths of a degree selected
     pub unit: u8,
     pub manual: u8,
-    // what units 3 to 7 read
+    // what units 4 to 7 read
     pub whole: i64,
-    // what units 1 and 2 read
+    // what units 1 to 3 read
     pub value: f64,
 }
 
@@ -87,7 +87,7 @@ fn flat_reading(shown: u8, reading: Reading) -> FlatReading
     match reading {
         Reading::Degrees(value) => rounded(shown, 1, value),
         Reading::DepthDifference(value) => rounded(shown, 2, value),
-        Reading::Nanovolts(number) => whole(shown, 3, 0, number),
+        Reading::Millivolts(value) => rounded(shown, 3, value),
         Reading::Frequency(frequency) => whole(shown, 4, 0, widened(frequency)),
         Reading::Setting(setting) => flat_setting(shown, setting),
     }

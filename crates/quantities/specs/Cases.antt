@@ -1,7 +1,9 @@
 -- The definitions of `Nearest`, by the cases of their tests.
 use mathlib.Core.Path.{_≡_}
+use mathlib.Core.Logic.{_≢_, _⊎_, inl, inr}
 use mathlib.Core.Bool.{Bool, true, false, not}
 use Prim.Native.Nat.{ℕ, _-_, _%_, _≤_, _<_, min}
+use native.Mathlib.Nat.{eq-or-lt-of-le}
 use native.Mathlib.Omega.{arith}
 use borrow.Author.Tests.{le-leb, lt-leb}
 use lib.IntN.{ℤ, natAbs}
@@ -46,6 +48,13 @@ module _ (q : Quantity) (figure : ℤ) where
   pub nearest-line : onCircle q ≡ false → nearestCount q figure ≡ lineNearest (scaleOf q) (isNegative figure) (natAbs figure)
   unfolding nearestCount
   nearest-line e = rw e
+
+pub less-if-other : {a b : ℕ} → a ≤ b → a ≢ b → a < b
+less-if-other {a} {b} h ne = go (eq-or-lt-of-le h)
+  where
+    go : (a ≡ b) ⊎ (a < b) → a < b
+    go (inl e) = absurd (ne e)
+    go (inr l) = l
 
 pub count-same : {a b : ℤ} → Count a ≡ Count b → a ≡ b
 count-same e = cc

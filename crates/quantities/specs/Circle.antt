@@ -1,7 +1,7 @@
 -- The azimuth: a value moved by whole turns is the value of a count moved by whole turns of counts, so the nearest of all whole
 -- numbers, less whole turns, is the nearest count round the circle.
 use mathlib.Core.Path.{_≡_, refl, sym, ap, ap₂, subst, _∙_}
-use mathlib.Core.Logic.{_⊎_, _↔_, inl, inr}
+use mathlib.Core.Logic.{_≢_, _⊎_, _↔_, inl, inr}
 use mathlib.Core.Bool.{Bool, true, false, not}
 use Prim.Native.Nat.{ℕ, zero, suc, _+_, _-_, _*_, _/_, _%_, _≤_, _<_}
 use native.Mathlib.Nat.{add-mul, one-mul, zero-mul, mul-assoc, mul-le-mul-right, mul-mod-left, mod-lt, div-add-mod'}
@@ -18,9 +18,9 @@ use Rattle.quantities.specs.declared.Nearest.{Nearest}
 use Rattle.quantities.specs.declared.Nearest.the-variants.{Count, OutOfReach}
 use Rattle.quantities.specs.Scale.{Sound, lastCount}
 use Rattle.quantities.specs.Nearest.{roundedCount, turnCounts, wrap, farthest, circleNearest}
-use Rattle.quantities.specs.Statements.{LegalCount, gap, gapTurned, Shortest, BeyondBy, Closest}
+use Rattle.quantities.specs.Statements.{LegalCount, gap, gapTurned, Shortest, BeyondBy, Closest, Farther}
 use Rattle.quantities.specs.Sides.{legal-side, legal-signed, rest-of-turn, gap-sides, counted}
-use Rattle.quantities.specs.Cases.{circle-within, circle-beyond, wrap-same, wrap-other, count-same, refused-not-count}
+use Rattle.quantities.specs.Cases.{circle-within, circle-beyond, wrap-same, wrap-other, less-if-other, count-same, refused-not-count}
 
 -- what makes a scale one of a circle: its counts are 360 degrees, their number is even, and no count is past 180 degrees
 pub record Circular (s : Scale) : Type 0 where
@@ -199,6 +199,16 @@ module _ (s : Scale) (k : Sound s) (circular : Circular s) (figure : ℤ) where
   rounded : Rounded (figure *ℤ pos (s .denominator)) (s .numerator) (withSign negative count)
   rounded = counted s k figure
 
+  -- the coded count is the rounded one, moved by whole turns
+  abbrev back : ℤ
+  back = wrapped-turns s circular negative count .0
+
+  again : moved s circular coded-count back ≡ withSign negative count
+  again = wrapped-turns s circular negative count .1
+
+  at-most : (d : ℕ) → Shortest s figure coded-count d → d ≤ gap s figure (withSign negative count)
+  at-most d p = omega (arith, p .least back, gap-moved s circular figure coded-count back, ap (gap s figure) again)
+
   closest : Closest true s figure coded-count
   closest =
       record {
@@ -211,15 +221,6 @@ module _ (s : Scale) (k : Sound s) (circular : Circular s) (figure : ℤ) where
             (λ e. ne (legal-once s circular other coded-count (q .turns) back l (wrapped-legal s circular negative count) (e ∙ sym again)))
             (omega (arith, at-most d p, q .reached, gap-moved s circular figure other (q .turns), Laws.nearest rounded (moved s circular other (q .turns))))));
       }
-    where
-      back : ℤ
-      back = wrapped-turns s circular negative count .0
-
-      again : moved s circular coded-count back ≡ withSign negative count
-      again = wrapped-turns s circular negative count .1
-
-      at-most : (d : ℕ) → Shortest s figure coded-count d → d ≤ gap s figure (withSign negative count)
-      at-most d p = omega (arith, p .least back, gap-moved s circular figure coded-count back, ap (gap s figure) again)
 
   abbrev answer : Nearest
   answer = circleNearest s negative (natAbs figure)
@@ -229,6 +230,30 @@ module _ (s : Scale) (k : Sound s) (circular : Circular s) (figure : ℤ) where
     where
       go : (natAbs figure ≤ farthest negative) ⊎ (farthest negative < natAbs figure) → Closest true s figure c
       go (inl h) = rw (← count-same (sym (circle-within s negative (natAbs figure) h) ∙ e)) closest
+      go (inr h) = absurd (refused-not-count (sym (circle-beyond s negative (natAbs figure) h) ∙ e))
+
+  -- where a figure is half a step from no count, the coded count is alone nearest
+  alone : ((c : ℤ) → 2 * gap s figure c ≢ s .numerator) → Farther true s figure coded-count
+  alone never other l ne d e p q = go (le-or-lt e d)
+    where
+      other-moved : ℤ
+      other-moved = moved s circular other (q .turns)
+
+      go : (e ≤ d) ⊎ (d < e) → d < e
+      go (inl h) =
+          absurd
+          (ne
+          (legal-once s circular other coded-count (q .turns) back l (wrapped-legal s circular negative count)
+          (Laws.alone rounded other-moved
+          (less-if-other (omega (arith, h, at-most d p, q .reached, gap-moved s circular figure other (q .turns), rounded .near)) (never other-moved))
+          ∙ sym again)))
+      go (inr h) = h
+
+  pub circle-untied : ((c : ℤ) → 2 * gap s figure c ≢ s .numerator) → (c : ℤ) → answer ≡ Count c → Farther true s figure c
+  circle-untied never c e = go (le-or-lt (natAbs figure) (farthest negative))
+    where
+      go : (natAbs figure ≤ farthest negative) ⊎ (farthest negative < natAbs figure) → Farther true s figure c
+      go (inl h) = rw (← count-same (sym (circle-within s negative (natAbs figure) h) ∙ e)) (alone never)
       go (inr h) = absurd (refused-not-count (sym (circle-beyond s negative (natAbs figure) h) ∙ e))
 
   pub circle-refused : (answer ≡ OutOfReach) ↔ BeyondBy true s figure

@@ -2,6 +2,7 @@ pub mod Cases
 pub mod Circle
 pub mod Examples
 pub mod Line
+pub mod Mls
 pub mod Nearest
 pub mod Scale
 pub mod Sides

@@ -1,7 +1,7 @@
 -- Course, glide and MLS figures: the count that `lineNearest` gives is the nearest legal one. Where the rounded count is past the last
 -- legal one, the figure lies exactly half a step past the last, which is then the only nearest.
 use mathlib.Core.Path.{_≡_, refl, sym, ap, _∙_}
-use mathlib.Core.Logic.{_⊎_, _↔_, inl, inr}
+use mathlib.Core.Logic.{_≢_, _⊎_, _↔_, inl, inr}
 use mathlib.Core.Bool.{Bool, false, not}
 use Prim.Native.Nat.{ℕ, suc, _+_, _*_, _≤_, _<_, min}
 use native.Mathlib.Nat.{add-mul, suc-mul, one-mul, zero-mul, mul-assoc, mul-left-comm, mul-le-mul-right, le-div-iff-mul-le, div-lt-iff-lt-mul, min-eq-left, min-eq-right, le-of-lt, le-refl, eq-of-mul-eq-mul-right}
@@ -15,9 +15,9 @@ use Rattle.quantities.specs.declared.Nearest.{Nearest}
 use Rattle.quantities.specs.declared.Nearest.the-variants.{Count, OutOfReach}
 use Rattle.quantities.specs.Scale.{Sound, lastCount}
 use Rattle.quantities.specs.Nearest.{reach, roundedCount, lineNearest}
-use Rattle.quantities.specs.Statements.{LegalCount, gap, BeyondBy, Closest}
+use Rattle.quantities.specs.Statements.{LegalCount, gap, BeyondBy, Closest, Farther}
 use Rattle.quantities.specs.Sides.{side, side-signed, other-side-signed, sides-equal, legal-side, legal-signed, gap-sides, gap-signed, counted}
-use Rattle.quantities.specs.Cases.{line-within, line-beyond, count-same, refused-not-count}
+use Rattle.quantities.specs.Cases.{line-within, line-beyond, less-if-other, count-same, refused-not-count}
 
 module _ (s : Scale) (k : Sound s) (figure : ℤ) where
   abbrev negative : Bool
@@ -129,3 +129,13 @@ module _ (s : Scale) (k : Sound s) (figure : ℤ) where
           (Laws.alone rounded coded-count (omega (arith, near, closest h .nearest c l _ _ refl refl))
           ∙ sym (Laws.alone rounded c near))
       go (inr h) = absurd (none-within h c l (le-of-lt near))
+
+  -- where a figure is half a step from no count, the coded count is alone nearest
+  pub line-untied : ((c : ℤ) → 2 * gap s figure c ≢ s .numerator) → (c : ℤ) → answer ≡ Count c → Farther false s figure c
+  line-untied never c h other l ne d e p q = go (le-or-lt e d)
+    where
+      go : (e ≤ d) ⊎ (d < e) → d < e
+      go (inl k) =
+          absurd
+          (ne (count-same (sym (line-alone other l (less-if-other (omega (arith, k, p, q, line-coded c h .1)) (never other))) ∙ h)))
+      go (inr k) = k

@@ -10,9 +10,9 @@ use Rattle.quantities.specs.declared.Scale.{Scale}
 abbrev pub thirteenBits : ℕ → ℕ → Scale
 thirteenBits numerator denominator = record { numerator = numerator; denominator = denominator; below = 4096; above = 4095 }
 
--- 0.0732 mV, with the counts that 16 bits hold
+-- 75/1024 mV, with the counts that 16 bits hold
 abbrev pub mlsScale : Scale
-mlsScale = record { numerator = 73200; denominator = 1; below = 32768; above = 32767 }
+mlsScale = record { numerator = 75000000; denominator = 1024; below = 32768; above = 32767 }
 
 -- 45/1024 degree, 1/10240 and 1/5120 of modulation depth difference, and the MLS step for both its deviations
 abbrev pub scaleOf : Quantity → Scale

@@ -3,7 +3,7 @@
 use mathlib.Core.Path.{_≡_}
 use mathlib.Core.Logic.{_≢_, _⊎_}
 use mathlib.Core.Bool.{Bool, true, false}
-use Prim.Native.Nat.{ℕ, _*_, _≤_}
+use Prim.Native.Nat.{ℕ, _*_, _≤_, _<_}
 use lib.IntN.{ℤ, pos, negℤ, natAbs, _+ℤ_, _-ℤ_, _*ℤ_}
 use lib.Signed.{_≤ℤ_, _<ℤ_}
 use Rattle.rounding.specs.Rounding.{Even}
@@ -57,6 +57,11 @@ pub record Closest (circle : Bool) (s : Scale) (figure c : ℤ) : Type 0 where
 -- the same for a quantity
 abbrev pub Coded : Quantity → ℤ → ℤ → Type 0
 Coded q = Closest (onCircle q) (scaleOf q)
+
+-- every legal count but c lies farther from the figure than c does: the figure is no tie
+abbrev pub Farther : Bool → Scale → ℤ → ℤ → Type 0
+Farther circle s figure c =
+    (other : ℤ) → LegalCount s other → other ≢ c → (d e : ℕ) → AwayBy circle s figure c d → AwayBy circle s figure other e → d < e
 
 -- the distance of a count's value from a whole number of millionths
 abbrev pub printGap : Scale → ℤ → ℤ → ℕ

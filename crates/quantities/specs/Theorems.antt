@@ -1,12 +1,12 @@
 -- The theorems on the five measured quantities, for every figure and every count. Each figure is coded or refused as document 01 asks,
 -- and every legal count's printed value is coded to that count.
 use mathlib.Core.Path.{_≡_, refl, sym, _∙_}
-use mathlib.Core.Logic.{_⊎_, _↔_, inl, inr}
-use mathlib.Core.Bool.{Bool, true, false}
-use Prim.Native.Nat.{ℕ, suc, _*_, _≤_}
+use mathlib.Core.Logic.{_≢_, _⊎_, _↔_, inl, inr}
+use mathlib.Core.Bool.{Bool, true, false, not}
+use Prim.Native.Nat.{ℕ, suc, _+_, _*_, _%_, _≤_}
 use native.Mathlib.Omega.{arith}
-use lib.IntN.{ℤ, pos, negsuc, _*ℤ_}
-use Rattle.rounding.specs.Parts.{natAbs-sub}
+use lib.IntN.{ℤ, pos, negsuc, natAbs, _*ℤ_}
+use Rattle.rounding.specs.Parts.{isNegative, distance, natAbs-sub}
 use Rattle.rounding.specs.Rounding.{Rounded}
 use Rattle.rounding.specs.Laws as Laws
 use Rattle.quantities.specs.declared.Quantity.{Quantity}
@@ -16,10 +16,11 @@ use Rattle.quantities.specs.declared.Nearest.{Nearest}
 use Rattle.quantities.specs.declared.Nearest.the-variants.{Count, OutOfReach}
 use Rattle.quantities.specs.Scale.{scaleOf, onCircle, sound}
 use Rattle.quantities.specs.Nearest.{nearestCount, millionthsOf}
-use Rattle.quantities.specs.Statements.{LegalCount, gap, AwayBy, Away, Beyond, Coded, Printed}
+use Rattle.quantities.specs.Statements.{LegalCount, gap, AwayBy, Away, Beyond, Coded, Farther, Printed}
+use Rattle.quantities.specs.Sides.{side, gap-sides}
 use Rattle.quantities.specs.Cases.{nearest-circle, nearest-line}
-use Rattle.quantities.specs.Line.{line-refused, line-coded, line-alone}
-use Rattle.quantities.specs.Circle.{Circular, shortest, circle-refused, circle-coded, circle-alone}
+use Rattle.quantities.specs.Line.{line-refused, line-coded, line-alone, line-untied}
+use Rattle.quantities.specs.Circle.{Circular, shortest, circle-refused, circle-coded, circle-alone, circle-untied}
 
 -- the azimuth's counts make 360 degrees
 pub circular : Circular (scaleOf Azimuth)
@@ -60,6 +61,38 @@ coded q figure c =
 -- and on a line to one within half a step
 pub within-half : (q : Quantity) → onCircle q ≡ false → (figure c : ℤ) → nearestCount q figure ≡ Count c → 2 * gap (scaleOf q) figure c ≤ scaleOf q .numerator
 within-half q e figure c h = line-coded (scaleOf q) (sound q) figure c (sym (nearest-line q figure e) ∙ h) .1
+
+-- No whole number of millionths lies half-way between two counts: the steps are 703125/16, 3125/32, 3125/16 and 1171875/16 millionths, so half a step
+-- is an odd number over an even one, and no odd multiple of it is whole.
+pub never-halfway : (q : Quantity) (figure c : ℤ) → 2 * gap (scaleOf q) figure c ≢ scaleOf q .numerator
+never-halfway q figure c = go q
+  where
+    size : ℕ
+    size = natAbs figure
+
+    here : ℕ
+    here = side (isNegative figure) c
+
+    there : ℕ
+    there = side (not (isNegative figure)) c
+
+    twice : (a b n : ℕ) → n % 2 ≡ 1 → 2 * distance a b ≢ n
+    twice a b n h e = omega arith
+
+    go : (q : Quantity) → 2 * gap (scaleOf q) figure c ≢ scaleOf q .numerator
+    go Azimuth e = twice (size * 16 + there * 703125) (here * 703125) 703125 refl (omega (arith, e, gap-sides (scaleOf Azimuth) figure c))
+    go Course e = twice (size * 32 + there * 3125) (here * 3125) 3125 refl (omega (arith, e, gap-sides (scaleOf Course) figure c))
+    go Glide e = twice (size * 16 + there * 3125) (here * 3125) 3125 refl (omega (arith, e, gap-sides (scaleOf Glide) figure c))
+    go MlsAzimuth e = twice (size * 16 + there * 1171875) (here * 1171875) 1171875 refl (omega (arith, e, gap-sides (scaleOf MlsAzimuth) figure c))
+    go MlsGlide e = twice (size * 16 + there * 1171875) (here * 1171875) 1171875 refl (omega (arith, e, gap-sides (scaleOf MlsGlide) figure c))
+
+-- so no figure is a tie: every legal count but the coded one lies farther
+pub untied : (q : Quantity) (figure c : ℤ) → nearestCount q figure ≡ Count c → Farther (onCircle q) (scaleOf q) figure c
+untied q figure c =
+    byShape (λ (q : Quantity). nearestCount q figure ≡ Count c → Farther (onCircle q) (scaleOf q) figure c)
+    (λ h. circle-untied (scaleOf Azimuth) (sound Azimuth) circular figure (never-halfway Azimuth figure) c (sym (nearest-circle Azimuth figure refl) ∙ h))
+    (λ q e h. rw e (line-untied (scaleOf q) (sound q) figure (never-halfway q figure) c (sym (nearest-line q figure e) ∙ h)))
+    q
 
 -- every count has one distance from every figure
 pub away : (q : Quantity) (figure c : ℤ) → (d : ℕ) × Away q figure c d

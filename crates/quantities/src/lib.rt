@@ -44,8 +44,8 @@ fn mls_scale() -> Scale
     ensures { λ r. ⌜ r ≡ mlsScale ⌝ }
 {
     Scale {
-        numerator: 73200,
-        denominator: 1,
+        numerator: 75_000_000,
+        denominator: 1024,
         below: 32768,
         above: 32767,
     }

@@ -1,3 +1,3 @@
 pub mod Readings
-pub mod Nanovolts
+pub mod Steps
 pub mod Meaning

@@ -13,7 +13,7 @@ use Rattle.records.specs.declared.Body.{Body}
 use Rattle.statuses.specs.declared.Status.{Status}
 use Rattle.doubles.specs.Exact.{IsExactly, IsCount}
 use Rattle.doubles.specs.Nearest.{IsNearest}
-use Rattle.doubles.specs.Doubles.{degreesOf, courseOf, glideOf, degrees-exact, course-nearest, glide-nearest}
+use Rattle.doubles.specs.Doubles.{degreesOf, courseOf, glideOf, millivoltsOf, degrees-exact, course-nearest, glide-nearest, millivolts-exact}
 use Rattle.views.specs.Views.{viewOf}
 use Rattle.views.specs.declared.Setting.{Setting}
 use Rattle.views.specs.declared.Value.{Value}
@@ -44,13 +44,17 @@ HasStatus (Body.Part4 good content) s = ⊥
 abbrev pub IsDegrees : ℤ → Reading → Type 0
 IsDegrees count r = (x : Float) × (r ≡ Reading.Degrees x) × IsExactly x (count *ℤ pos 45) 1024
 
+-- a reading in millivolts, exactly count × 75 / 1024
+abbrev pub IsMillivolts : ℤ → Reading → Type 0
+IsMillivolts count r = (x : Float) × (r ≡ Reading.Millivolts x) × IsExactly x (count *ℤ pos 75) 1024
+
 -- a reading in depth difference, the double nearest to count / divisor
 abbrev pub IsDifference : ℕ → ℤ → Reading → Type 0
 IsDifference divisor count r = (x : Float) × (r ≡ Reading.DepthDifference x) × IsNearest x count divisor
 
 -- A reading is that of a body: 222 in degrees, exactly count × 45 / 1024; 173 and 174 in depth difference, the double nearest to
--- count / 10240 and count / 5120; 151 and 152 in nanovolts, 73,200 a count; frequencies in tens of kHz; 153 in degrees, 154 and 155
--- in tenths of a degree. A part has none.
+-- count / 10240 and count / 5120; 151 and 152 in millivolts, exactly count × 75 / 1024; frequencies in tens of kHz; 153 in degrees,
+-- 154 and 155 in tenths of a degree. A part has none.
 abbrev pub IsReading : Body → Reading → Type 0
 IsReading (Body.VorAzimuth status marker count) r = IsDegrees (count .0) r
 IsReading (Body.VorFrequency status frequency) r = r ≡ Reading.Frequency frequency
@@ -58,8 +62,8 @@ IsReading (Body.IlsCourse status inhibit count) r = IsDifference 10240 (count .0
 IsReading (Body.IlsGlide status inhibit count) r = IsDifference 5120 (count .0) r
 IsReading (Body.IlsFrequency status category frequency) r = r ≡ Reading.Frequency frequency
 IsReading (Body.MlsFrequency status frequency) r = r ≡ Reading.Frequency frequency
-IsReading (Body.MlsAzimuthDeviation status inhibit clearance count) r = r ≡ Reading.Nanovolts (count .0 *ℤ pos 73200)
-IsReading (Body.MlsGlideDeviation status inhibit clearance count) r = r ≡ Reading.Nanovolts (count .0 *ℤ pos 73200)
+IsReading (Body.MlsAzimuthDeviation status inhibit clearance count) r = IsMillivolts (count .0) r
+IsReading (Body.MlsGlideDeviation status inhibit clearance count) r = IsMillivolts (count .0) r
 IsReading (Body.SelectedAzimuth status manual degrees) r = r ≡ Reading.Setting (Setting.SelectedAzimuth manual degrees)
 IsReading (Body.GreatestGlideAngle status tenths) r = r ≡ Reading.Setting (Setting.GreatestGlideAngle tenths)
 IsReading (Body.SelectedGlideAngle status manual tenths) r = r ≡ Reading.Setting (Setting.SelectedGlideAngle manual tenths)
@@ -100,8 +104,8 @@ abbrev pub Reads : Value → Reading → Type 0
 Reads (Value.Azimuth count) r = IsDegrees (count .0) r
 Reads (Value.Course count) r = IsDifference 10240 (count .0) r
 Reads (Value.Glide count) r = IsDifference 5120 (count .0) r
-Reads (Value.MlsAzimuth count) r = r ≡ Reading.Nanovolts (count .0 *ℤ pos 73200)
-Reads (Value.MlsGlide count) r = r ≡ Reading.Nanovolts (count .0 *ℤ pos 73200)
+Reads (Value.MlsAzimuth count) r = IsMillivolts (count .0) r
+Reads (Value.MlsGlide count) r = IsMillivolts (count .0) r
 Reads (Value.Frequency frequency) r = r ≡ Reading.Frequency frequency
 Reads (Value.Setting setting) r = r ≡ Reading.Setting setting
 
@@ -193,8 +197,8 @@ pub value-reads : (v : Value) → ValueFits v → Reads v (valueReading v)
 value-reads (Value.Azimuth n) h = (degreesOf (n .0), refl, degrees-exact (n .0) h)
 value-reads (Value.Course n) h = (courseOf (n .0), refl, course-nearest (n .0) h)
 value-reads (Value.Glide n) h = (glideOf (n .0), refl, glide-nearest (n .0) h)
-value-reads (Value.MlsAzimuth n) h = refl
-value-reads (Value.MlsGlide n) h = refl
+value-reads (Value.MlsAzimuth n) h = (millivoltsOf (n .0), refl, millivolts-exact (n .0) h)
+value-reads (Value.MlsGlide n) h = (millivoltsOf (n .0), refl, millivolts-exact (n .0) h)
 value-reads (Value.Frequency f) h = refl
 value-reads (Value.Setting s) h = refl
 

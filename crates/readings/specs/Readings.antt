@@ -2,10 +2,10 @@
 -- Assumes nothing.
 use mathlib.Core.Path.{_≡_, refl}
 use mathlib.Core.Bool.{Bool, true, false}
-use lib.IntN.{ℤ, pos, _*ℤ_}
+use lib.IntN.{ℤ}
 use Rattle.records.specs.declared.Body.{Body}
 use Rattle.statuses.specs.declared.Status.{Status}
-use Rattle.doubles.specs.Doubles.{degreesOf, courseOf, glideOf}
+use Rattle.doubles.specs.Doubles.{degreesOf, courseOf, glideOf, millivoltsOf}
 use Rattle.views.specs.Views.{isShown, viewOf}
 use Rattle.views.specs.declared.Value.{Value}
 use Rattle.views.specs.declared.View.{View}
@@ -24,9 +24,9 @@ courseReading count = Reading.DepthDifference (courseOf count)
 abbrev pub glideReading : ℤ → Reading
 glideReading count = Reading.DepthDifference (glideOf count)
 
--- 151 and 152: 73,200 nanovolts a count
+-- 151 and 152: count × 75 / 1024 mV
 abbrev pub mlsReading : ℤ → Reading
-mlsReading count = Reading.Nanovolts (count *ℤ pos 73200)
+mlsReading count = Reading.Millivolts (millivoltsOf count)
 
 abbrev pub valueReading : Value → Reading
 valueReading (Value.Azimuth count) = azimuthReading (count .0)

@@ -1,4 +1,4 @@
-// What a record reads: degrees, depth difference, nanovolts, a frequency or a setting. The definitions and their laws stand in specs/.
+// What a record reads: degrees, depth difference, millivolts, a frequency or a setting. The definitions and their laws stand in specs/.
 use views::Setting;
 
 // A quantity with its unit (document 01's term is a reading).
@@ -7,8 +7,8 @@ pub enum Reading {
     Degrees(f64),
     // a difference in depth of modulation (DDM)
     DepthDifference(f64),
-    // a deviation, in nanovolts
-    Nanovolts(i64),
+    // an MLS deviation, in millivolts
+    Millivolts(f64),
     // a frequency, in tens of kHz
     Frequency(u32),
     // a setting

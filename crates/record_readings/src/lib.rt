@@ -1,5 +1,4 @@
 // The reading of a record: its value's, under its status.
-use quantities::Quantity;
 use readings::Reading;
 use readings::Shown;
 use records::AzimuthCount;
@@ -35,12 +34,11 @@ fn glide_reading(count: GlideCount) -> Reading
     Reading::DepthDifference(doubles::glide_difference(count))
 }
 
-// The reading of 151 and 152: nanovolts are the millionths of a millivolt that the count is printed as.
+// The reading of 151 and 152.
 fn mls_reading(count: MlsCount) -> Reading
     ensures { λ r. ⌜ r ≡ mlsReading (count .0) ⌝ }
 {
-    let number = count.0;
-    Reading::Nanovolts(quantities::millionths(Quantity::MlsAzimuth, number))
+    Reading::Millivolts(doubles::mls_millivolts(count))
 }
 
 // The reading of a value.

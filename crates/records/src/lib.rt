@@ -31,7 +31,7 @@ pub struct CourseCount(pub i16);
 // A count of 1/5120 of modulation depth difference.
 pub struct GlideCount(pub i16);
 
-// A count of 0.0732 mV.
+// A count of 75/1024 mV.
 pub struct MlsCount(pub i16);
 
 // What a word of each kind holds beside its source. Frequencies are in tens of kHz, angles of 154 and 155 in tenths of a degree.

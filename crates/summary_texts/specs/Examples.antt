@@ -68,8 +68,8 @@ range-lines :
     ∷ []
     ≡ ascii "least -10 -0.000977 greatest 4 0.000391\n"
     ∷ ascii "least -10 -0.001953 greatest 4 0.000781\n"
-    ∷ ascii "least -10 -0.732000 greatest 4 0.292800\n"
-    ∷ ascii "least -10 -0.732000 greatest 4 0.292800\n"
+    ∷ ascii "least -10 -0.732422 greatest 4 0.292969\n"
+    ∷ ascii "least -10 -0.732422 greatest 4 0.292969\n"
     ∷ []
 unfolding decimal millionthsOf roundEven
 range-lines = refl

@@ -1,6 +1,6 @@
 // Codes each figure of the test vectors and compares the answer with what its line says: a label in octal, a source, a figure in millionths, and
 // then `refused` and the number of the refusal, or the coded word in hexadecimal, between single spaces. The second file has document
-// 01's own lines, and in the third four lines of the first are wrong.
+// 01's own lines, the third figures at the half steps of the MLS deviations, and in the fourth four lines of the first are wrong.
 use encode::Encoded;
 use signed_numbers::Signed;
 use test_vectors::Tally;
@@ -106,5 +106,6 @@ fn check_file(name: &[u8]) {
 fn main() {
     check_file(b"figures.txt");
     check_file(b"document_01.txt");
+    check_file(b"mls.txt");
     check_file(b"figures_wrong.txt");
 }

@@ -16,6 +16,10 @@ fn print_double(x: f64) {
         io::write_all(STDOUT_FILENO, b"+0.1");
     } else if x == -0.00009765625 {
         io::write_all(STDOUT_FILENO, b"-0.00009765625");
+    } else if x == 0.0732421875 {
+        io::write_all(STDOUT_FILENO, b"+0.0732421875");
+    } else if x == -2400.0 {
+        io::write_all(STDOUT_FILENO, b"-2400.0");
     } else {
         io::write_all(STDOUT_FILENO, b"another double");
     }
@@ -56,12 +60,9 @@ fn print_reading(reading: Reading) {
             print_double(x);
             io::write_all(STDOUT_FILENO, b" depth difference");
         }
-        Reading::Nanovolts(n) => {
-            if n == 73200 {
-                io::write_all(STDOUT_FILENO, b"73200 nanovolts");
-            } else {
-                io::write_all(STDOUT_FILENO, b"other nanovolts");
-            }
+        Reading::Millivolts(x) => {
+            print_double(x);
+            io::write_all(STDOUT_FILENO, b" millivolts");
         }
         Reading::Frequency(f) => {
             io::print_decimal(STDOUT_FILENO, f as u64);
@@ -120,7 +121,7 @@ fn print_point(first: u32, second: u32) {
     io::write_all(STDOUT_FILENO, b"\n");
 }
 
-// The starred words, and one MLS word.
+// The starred words, and the MLS words of count 1 and of the least count.
 fn print_words() {
     print_word(0xE8000049);
     print_word(0xFC000049);
@@ -134,6 +135,7 @@ fn print_words() {
     print_word(0xE1400036);
     print_word(0xE8000048);
     print_word(0x60002096);
+    print_word(0x70000096);
 }
 
 // The statuses of one course word, and a part.

@@ -232,7 +232,7 @@ fn reading_to_model(reading: Reading, test: bool, record: Record) -> model::read
     let value = match reading {
         Reading::Degrees(value) => Value::Degrees(value),
         Reading::DepthDifference(value) => Value::Depth(value),
-        Reading::Nanovolts(whole) => Value::Nanovolts(whole),
+        Reading::Millivolts(value) => Value::Millivolts(value),
         Reading::TensOfKhz(whole) => Value::Frequency(whole),
         Reading::GreatestTenths(whole) => Value::Setting(whole),
         Reading::SelectedDegrees(whole, manual) | Reading::SelectedTenths(whole, manual) => {

@@ -21,8 +21,8 @@ rounded-requires-2 c κs = search needs
 enum-known-reading-3 : tie.Need-enum-known-reading-3
 enum-known-reading-3 c = search needs
 
-whole-requires : tie.Need-whole-requires
-whole-requires c κs = search needs
+rounded-requires-3 : tie.Need-rounded-requires-3
+rounded-requires-3 c κs = search needs
 
 enum-known-reading-4 : tie.Need-enum-known-reading-4
 enum-known-reading-4 c = search needs
@@ -30,8 +30,8 @@ enum-known-reading-4 c = search needs
 widened-requires : tie.Need-widened-requires
 widened-requires c κs = search needs
 
-whole-requires-2 : tie.Need-whole-requires-2
-whole-requires-2 c κs = search needs
+whole-requires : tie.Need-whole-requires
+whole-requires c κs = search needs
 
 enum-known-reading-5 : tie.Need-enum-known-reading-5
 enum-known-reading-5 c = search needs
@@ -46,14 +46,12 @@ returns-2 : tie.Need-returns-2
 returns-2 c = rw (c .before .before .reading2 .given .1) (c .rounded2 .ensures)
 
 returns-3 : tie.Need-returns-3
-returns-3 c =
-    let g = c .before .before .reading3 .given in
-    rw (g .1) (rw (toZ-ofZ {w = w64} {z = g .0 .0} (search needs)) at (c .whole .ensures))
+returns-3 c = rw (c .before .before .reading3 .given .1) (c .rounded3 .ensures)
 
 returns-4 : tie.Need-returns-4
 returns-4 c =
     rw (c .before .before .before .reading4 .given .1)
-    (rw (toZ-ofZ {w = w64} {z = c .before .widened .result} (search needs), c .before .widened .ensures) at (c .whole2 .ensures))
+    (rw (toZ-ofZ {w = w64} {z = c .before .widened .result} (search needs), c .before .widened .ensures) at (c .whole .ensures))
 
 returns-5 : tie.Need-returns-5
 returns-5 c = rw (c .before .before .reading5 .given .1) (c .flat-setting .ensures)
@@ -67,10 +65,10 @@ flat-reading-spec =
     enum-known-reading-2
     rounded-requires-2
     enum-known-reading-3
-    whole-requires
+    rounded-requires-3
     enum-known-reading-4
     widened-requires
-    whole-requires-2
+    whole-requires
     enum-known-reading-5
     flat-setting-requires
     returns
