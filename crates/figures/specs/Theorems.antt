@@ -9,7 +9,7 @@ use Rattle.refusals.specs.declared.Refusal.{Refusal}
 use Rattle.labels.specs.Assignment.{Assignment, document01}
 use Rattle.encode.specs.Encode.{wordAs}
 use Rattle.encode.specs.declared.Encoded.{Encoded}
-use Rattle.quantities.specs.Mls.{IsMls, OffMls, mls-reach}
+use Rattle.quantities.specs.Mls.{IsMls, BeyondMls, mls-reach}
 use Rattle.quantities.specs.Scale.{scaleOf}
 use Rattle.quantities.specs.Nearest.{nearestCount, millionthsOf}
 use Rattle.quantities.specs.Statements.{LegalCount, Beyond, Coded}
@@ -40,8 +40,8 @@ module _ (a : Assignment) where
     λ h. out-of-reach q source s figure .1 (Quantities.refused q figure .1 h),
   )
 
-  off-mls : (q : Quantity) → IsMls q → (source : ℕ) → source ≤ 3 → (figure : ℤ) → (codedWith a (labelFor a q) source figure ≡ Encoded.Refused Refusal.Reach) ↔ OffMls figure
-  off-mls q m source s figure = (
+  beyond-mls : (q : Quantity) → IsMls q → (source : ℕ) → source ≤ 3 → (figure : ℤ) → (codedWith a (labelFor a q) source figure ≡ Encoded.Refused Refusal.Reach) ↔ BeyondMls figure
+  beyond-mls q m source s figure = (
     λ e. mls-reach q m figure .0 (out-of-reach q source s figure .0 e),
     λ h. out-of-reach q source s figure .1 (mls-reach q m figure .1 h),
   )
@@ -98,7 +98,7 @@ module _ (a : Assignment) where
         bit-28-mls = λ q. elim [ inl e ↦ rw e refl | inr e ↦ rw e refl ];
         bit-14-mls = λ q. elim [ inl e ↦ rw e refl | inr e ↦ rw e refl ];
         deviation-refused = λ q line source s figure. rw line at (refused q source s figure);
-        mls-refused = off-mls;
+        mls-refused = beyond-mls;
         azimuth-refused = λ source s figure. refused Quantity.Azimuth source s figure;
         rest-coded = answered;
         legal = λ q source s figure w e. nearest q source s figure w e .legal;

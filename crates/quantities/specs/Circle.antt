@@ -225,12 +225,16 @@ module _ (s : Scale) (k : Sound s) (circular : Circular s) (figure : ℤ) where
   abbrev answer : Nearest
   answer = circleNearest s negative (natAbs figure)
 
-  pub circle-coded : (c : ℤ) → answer ≡ Count c → Closest true s figure c
-  circle-coded c e = go (le-or-lt (natAbs figure) (farthest negative))
+  -- what holds of the coded count holds of the answer
+  answered : (P : ℤ → Type 0) → P coded-count → (c : ℤ) → answer ≡ Count c → P c
+  answered P p c e = go (le-or-lt (natAbs figure) (farthest negative))
     where
-      go : (natAbs figure ≤ farthest negative) ⊎ (farthest negative < natAbs figure) → Closest true s figure c
-      go (inl h) = rw (← count-same (sym (circle-within s negative (natAbs figure) h) ∙ e)) closest
+      go : (natAbs figure ≤ farthest negative) ⊎ (farthest negative < natAbs figure) → P c
+      go (inl h) = subst P (count-same (sym (circle-within s negative (natAbs figure) h) ∙ e)) p
       go (inr h) = absurd (refused-not-count (sym (circle-beyond s negative (natAbs figure) h) ∙ e))
+
+  pub circle-coded : (c : ℤ) → answer ≡ Count c → Closest true s figure c
+  circle-coded = answered (Closest true s figure) closest
 
   -- where a figure is half a step from no count, the coded count is alone nearest
   alone : ((c : ℤ) → 2 * gap s figure c ≢ s .numerator) → Farther true s figure coded-count
@@ -250,11 +254,7 @@ module _ (s : Scale) (k : Sound s) (circular : Circular s) (figure : ℤ) where
       go (inr h) = h
 
   pub circle-untied : ((c : ℤ) → 2 * gap s figure c ≢ s .numerator) → (c : ℤ) → answer ≡ Count c → Farther true s figure c
-  circle-untied never c e = go (le-or-lt (natAbs figure) (farthest negative))
-    where
-      go : (natAbs figure ≤ farthest negative) ⊎ (farthest negative < natAbs figure) → Farther true s figure c
-      go (inl h) = rw (← count-same (sym (circle-within s negative (natAbs figure) h) ∙ e)) (alone never)
-      go (inr h) = absurd (refused-not-count (sym (circle-beyond s negative (natAbs figure) h) ∙ e))
+  circle-untied never = answered (Farther true s figure) (alone never)
 
   pub circle-refused : (answer ≡ OutOfReach) ↔ BeyondBy true s figure
   circle-refused = go (le-or-lt (natAbs figure) (farthest negative))

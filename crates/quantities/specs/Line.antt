@@ -101,13 +101,21 @@ module _ (s : Scale) (k : Sound s) (figure : ℤ) where
   abbrev answer : Nearest
   answer = lineNearest s negative (natAbs figure)
 
-  pub line-refused : (answer ≡ OutOfReach) ↔ BeyondBy false s figure
-  line-refused = go (le-or-lt (natAbs figure) (reach s negative))
+  -- refused is what lies past the reach of its sign
+  pub line-past : (answer ≡ OutOfReach) ↔ (reach s negative < natAbs figure)
+  line-past = go (le-or-lt (natAbs figure) (reach s negative))
     where
-      go : (natAbs figure ≤ reach s negative) ⊎ (reach s negative < natAbs figure) → (answer ≡ OutOfReach) ↔ BeyondBy false s figure
+      go : (natAbs figure ≤ reach s negative) ⊎ (reach s negative < natAbs figure) → (answer ≡ OutOfReach) ↔ (reach s negative < natAbs figure)
       go (inl h) =
-          (λ e. absurd (refused-not-count (sym e ∙ line-within s negative (natAbs figure) h)), λ none. absurd (none coded-count (closest h .legal) (half h)))
-      go (inr h) = (λ _. none-within h, λ _. line-beyond s negative (natAbs figure) h)
+          (λ e. absurd (refused-not-count (sym e ∙ line-within s negative (natAbs figure) h)), λ k. absurd (omega (arith, h, k)))
+      go (inr h) = (λ _. h, λ _. line-beyond s negative (natAbs figure) h)
+
+  pub line-refused : (answer ≡ OutOfReach) ↔ BeyondBy false s figure
+  line-refused = (λ e. none-within (line-past .0 e), λ none. line-past .1 (past none (le-or-lt (natAbs figure) (reach s negative))))
+    where
+      past : BeyondBy false s figure → (natAbs figure ≤ reach s negative) ⊎ (reach s negative < natAbs figure) → reach s negative < natAbs figure
+      past none (inl h) = absurd (none coded-count (closest h .legal) (half h))
+      past none (inr h) = h
 
   -- the coded count is the closest, and lies within half a step
   pub line-coded : (c : ℤ) → answer ≡ Count c → Closest false s figure c × (2 * gap s figure c ≤ s .numerator)
