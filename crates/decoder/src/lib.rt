@@ -4,7 +4,7 @@ use labels::Lookup;
 use records::Kind;
 use refusals::Refusal;
 ghost use mathlib.Core.Path.{_≡_};
-ghost use Rattle.decode.specs.Decode.{decodeKind, decodeAs, decodeOf};
+ghost use Rattle.decode.specs.Decode.{decodeKind, decodeFound, decodeAs, decodeOf};
 
 // A word of a known kind.
 fn decode_kind(kind: Kind, word: u32) -> Decoded
@@ -18,6 +18,16 @@ fn decode_kind(kind: Kind, word: u32) -> Decoded
     clear_words::decode_clear(kind, word)
 }
 
+// A word whose label was looked up and whose parity is right.
+fn decode_found(lookup: Lookup, word: u32) -> Decoded
+    ensures { λ r. ⌜ r ≡ decodeFound lookup word ⌝ }
+{
+    match lookup {
+        Lookup::Known(kind) => decode_kind(kind, word),
+        Lookup::Unknown => Decoded::Refused(Refusal::Label),
+    }
+}
+
 // The record of a word whose label was looked up, or its refusal.
 pub fn decode_as(lookup: Lookup, word: u32) -> Decoded
     ensures { λ r. ⌜ r ≡ decodeAs lookup word ⌝ }
@@ -25,15 +35,15 @@ pub fn decode_as(lookup: Lookup, word: u32) -> Decoded
     if !bits::is_odd(word) {
         return Decoded::Refused(Refusal::Parity);
     }
-    match lookup {
-        Lookup::Known(kind) => decode_kind(kind, word),
-        Lookup::Unknown => Decoded::Refused(Refusal::Label),
-    }
+    decode_found(lookup, word)
 }
 
-// The record of a word, or its refusal.
+// The record of a word, or its refusal. Its label is looked up where its parity is right.
 pub fn decode(word: u32) -> Decoded
     ensures { λ r. ⌜ r ≡ decodeOf word ⌝ }
 {
-    decode_as(word_labels::kind_in(word), word)
+    if !bits::is_odd(word) {
+        return Decoded::Refused(Refusal::Parity);
+    }
+    decode_found(word_kinds::kind_in(word), word)
 }

@@ -241,7 +241,7 @@ only (Body.Part4 g c) w h = ap₂ Body.Part4 (flag-read 11 g w (h .2)) (h .3 ∙
 
 -- ---- the label and the source
 
-label-sum : (a b c d e f g h : ℕ) → a * 128 + b * 64 + c * 32 + d * 16 + e * 8 + f * 4 + g * 2 + h * 1 ≡ 128 * a + 64 * b + 32 * c + 16 * d + 8 * e + 4 * f + 2 * g + h
+label-sum : (a b c d e f g h : ℕ) → 0 + a * 128 + b * 64 + c * 32 + d * 16 + e * 8 + f * 4 + g * 2 + h * 1 ≡ 128 * a + 64 * b + 32 * c + 16 * d + 8 * e + 4 * f + 2 * g + h
 label-sum a b c d e f g h = omega arith
 
 pub label-bits : (w : ℕ) → labelOf w ≡ 128 * bit 1 w + 64 * bit 2 w + 32 * bit 3 w + 16 * bit 4 w + 8 * bit 5 w + 4 * bit 6 w + 2 * bit 7 w + bit 8 w

@@ -21,7 +21,8 @@ use Rattle.frequencies.specs.declared.Band.{Band}
 use Rattle.records.specs.declared.Body.{Body}
 use Rattle.records.specs.declared.Kind.{Kind}
 use Rattle.records.specs.declared.Record.{Record}
-use Rattle.labels.specs.Label.{labelOf, label-lt}
+use Rattle.labels.specs.Label.{labelOf}
+use Rattle.labels.specs.LabelLaws.{label-lt}
 use Rattle.encode.specs.Fields.{fieldsOf, statusBits}
 use Rattle.encode.specs.Encode.{valuesLegal, upperBits, lowerAs}
 

@@ -11,7 +11,8 @@ use lib.IntN.{ℤ}
 use Rattle.bits.specs.Fields.{bits}
 use Rattle.bits.specs.Parity.{odd, parityBit, parity-odd}
 use Rattle.refusals.specs.declared.Refusal.{Refusal}
-use Rattle.labels.specs.Label.{labelOf, label-lt, label-low, label-twice}
+use Rattle.labels.specs.Label.{labelOf}
+use Rattle.labels.specs.LabelLaws.{label-lt, label-low, label-twice}
 use Rattle.encode.specs.Encode.{lowerAs, wordAs}
 use Rattle.encode.specs.declared.Encoded.{Encoded}
 use Rattle.quantities.specs.Nearest.{nearestCount}

@@ -1,3 +1,5 @@
 pub mod Label
+pub mod BytesLemmas
+pub mod LabelLaws
 pub mod Table
 pub mod Assignment

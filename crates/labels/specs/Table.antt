@@ -13,6 +13,7 @@ use Rattle.records.specs.All.{kinds, agree}
 use Rattle.records.specs.Layouts.{wordLayout}
 use Rattle.records.specs.declared.Kind.{Kind}
 use Rattle.records.specs.declared.Kind.the-variants.{VorAzimuth, VorFrequency, IlsCourse, IlsGlide, IlsFrequency, MlsFrequency, MlsAzimuthDeviation, MlsGlideDeviation, SelectedAzimuth, GreatestGlideAngle, SelectedGlideAngle, Part1, Part2, Part3, Part4}
+use Rattle.labels.specs.Label.{labelOf}
 use Rattle.labels.specs.declared.Row.{Row}
 use Rattle.labels.specs.declared.Lookup.{Lookup}
 use Rattle.labels.specs.declared.Lookup.the-variants.{Known, Unknown}
@@ -34,10 +35,15 @@ labelNumber Part2 = 0o141
 labelNumber Part3 = 0o142
 labelNumber Part4 = 0o143
 
+-- the byte that a kind's words have in bits 1 to 8: its label, turned
+abbrev pub byteOf : Kind → ℕ
+byteOf k = labelOf (labelNumber k)
+
 -- a kind's row: its label, and ones just where its layout has zero bits
 unfoldable pub rowOf : Kind → Row
 rowOf k = record { label = labelNumber k; kind = k; zeros = mask (wordLayout k) }
 
+-- the kind at a place, from 0 to 14; at any other the first
 abbrev pub kindAt : ℕ → Kind
 kindAt i = getD kinds i VorAzimuth
 

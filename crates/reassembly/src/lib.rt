@@ -78,7 +78,7 @@ fn part_of(source: u8, body: Body) -> PartIn
 pub fn part_in(word: u32) -> PartIn
     ensures { λ r. ⌜ r ≡ partIn word ⌝ }
 {
-    match decoder::decode_as(only_parts(word_labels::kind_in(word)), word) {
+    match decoder::decode_as(only_parts(word_kinds::kind_in(word)), word) {
         Decoded::Accepted(record) => {
             let source = record.source;
             let body = record.body;

@@ -18,7 +18,8 @@ use Rattle.records.specs.Layouts.{layout, lowerLayout, wordLayout, whole, whole
 use Rattle.records.specs.declared.Kind.{Kind}
 use Rattle.records.specs.declared.Record.{Record}
 use Rattle.refusals.specs.declared.Refusal.{Refusal}
-use Rattle.labels.specs.Label.{labelOf, label-low, label-byte, label-twice, label-lt}
+use Rattle.labels.specs.Label.{labelOf}
+use Rattle.labels.specs.LabelLaws.{label-low, label-byte, label-twice, label-lt}
 use Rattle.labels.specs.Assignment.{Assignment}
 use Rattle.labels.specs.declared.Lookup.{Lookup}
 use Rattle.decode.specs.Decode.{recordOf, decodeAs, decodeWith}

@@ -6,7 +6,7 @@ use native.Mathlib.Omega.{arith}
 use borrow.Author.Needs.{needs}
 use mir.Facts.{toZ-ofZ}
 use Rattle.bits.specs.Parity.{withParity}
-use Rattle.labels.specs.Label.{label-lt}
+use Rattle.labels.specs.LabelLaws.{label-lt}
 use Rattle.figures.specs.Ready.{readyBits, ready-small, ready-lower}
 use Rattle.coder.proofs.ready_word.Statement.{statement}
 use Rattle.coder.proofs.ready_word.Tie as tie

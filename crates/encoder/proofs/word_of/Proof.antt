@@ -5,7 +5,7 @@ use Prim.Native.Nat.{ℕ, _+_, _*_, _<_}
 use native.Mathlib.Omega.{arith}
 use borrow.Author.Needs.{needs}
 use Rattle.bits.specs.Parity.{withParity}
-use Rattle.labels.specs.Label.{label-lt}
+use Rattle.labels.specs.LabelLaws.{label-lt}
 use Rattle.encode.specs.Laws.{upper-lt}
 use Rattle.encoder.proofs.word_of.Statement.{statement}
 use Rattle.encoder.proofs.word_of.Tie as tie

@@ -1,71 +1,77 @@
--- Each sum of weighed bits fits, and the last is the definition.
+-- Before turn k the sum is that of bits 1 to k - 1.
 -- Assumes nothing.
+use mathlib.Core.Path.{_≡_, ap, ap₂, _∙_}
+use Prim.Native.Nat.{ℕ, _+_, _-_, _*_, _^_, _≤_}
 use native.Mathlib.Omega.{arith}
 use borrow.Author.Needs.{needs}
+use Rattle.labels.specs.Label.{bit, labelTo}
+use Rattle.word_labels.proofs.Turns.{weighed-le, sum-le, turn}
 use Rattle.word_labels.proofs.label_of.Statement.{statement}
 use Rattle.word_labels.proofs.label_of.Tie as tie
 
-mul-result : tie.Need-mul-result
-mul-result c = omega arith
+abbrev Inv-loop : tie.InvT-loop
+Inv-loop word label₀ k₀ label k = ((1 ≤ k) × (k ≤ 9)) × (label ≡ labelTo (k - 1) word)
 
-mul-result-2 : tie.Need-mul-result-2
-mul-result-2 c = omega arith
+abbrev μ-loop : tie.MeasureT-loop
+μ-loop word label₀ k₀ label k = 9 - k
 
-add-result : tie.Need-add-result
-add-result c = omega arith
+-- what turn k adds
+module _ (c : tie.After-weight Inv-loop μ-loop) where
+  abbrev word : ℕ
+  word = c .before .before .before .before .args .word
 
-mul-result-3 : tie.Need-mul-result-3
-mul-result-3 c = omega arith
+  abbrev k : ℕ
+  k = c .before .before .before .loop .k
 
-add-result-2 : tie.Need-add-result-2
-add-result-2 c = omega arith
+  added : c .before .bit .result * c .weight .result ≡ bit k word * 2 ^ (8 - k)
+  added = ap₂ (λ (b w : ℕ). b * w) (c .before .bit .ensures) (c .weight .ensures)
 
-mul-result-4 : tie.Need-mul-result-4
-mul-result-4 c = omega arith
+  small : bit k word * 2 ^ (8 - k) ≤ 128
+  small = weighed-le word k (omega arith)
 
-add-result-3 : tie.Need-add-result-3
-add-result-3 c = omega arith
+loop-holds : tie.Need-loop-holds Inv-loop μ-loop
+loop-holds c = search needs
 
-mul-result-5 : tie.Need-mul-result-5
-mul-result-5 c = omega arith
+bit-requires : tie.Need-bit-requires Inv-loop μ-loop
+bit-requires c κs = search needs
 
-add-result-4 : tie.Need-add-result-4
-add-result-4 c = omega arith
+weight-requires : tie.Need-weight-requires Inv-loop μ-loop
+weight-requires c κs = search needs
 
-mul-result-6 : tie.Need-mul-result-6
-mul-result-6 c = omega arith
+mul-label : tie.Need-mul-label Inv-loop μ-loop
+mul-label c = omega (arith, added c, small c)
 
-add-result-5 : tie.Need-add-result-5
-add-result-5 c = omega arith
+add-label : tie.Need-add-label Inv-loop μ-loop
+add-label c = omega (arith, added c, small c, sum-le (word c) (k c - 1), c .before .before .before .loop .inv .1)
 
-mul-result-7 : tie.Need-mul-result-7
-mul-result-7 c = omega arith
+add-k : tie.Need-add-k Inv-loop μ-loop
+add-k c = search needs
 
-add-result-6 : tie.Need-add-result-6
-add-result-6 c = omega arith
+loop-less : tie.Need-loop-less Inv-loop μ-loop
+loop-less c = search needs
 
-add-result-7 : tie.Need-add-result-7
-add-result-7 c = omega arith
+loop-again : tie.Need-loop-again Inv-loop μ-loop
+loop-again c =
+    let e : k c ≡ k c + 1 - 1 = omega arith in
+    (omega arith, ap₂ (λ (x y : ℕ). x + y) (c .before .before .before .loop .inv .1) (added c) ∙ turn (word c) (k c) (omega arith) ∙ ap (λ (n : ℕ). labelTo n (word c)) e)
 
-returns : tie.Need-returns
-returns c = search needs
+returns : tie.Need-returns Inv-loop μ-loop
+returns c =
+    let e : c .before .loop .k - 1 ≡ 8 = omega arith in
+    c .before .loop .inv .1 ∙ ap (λ (n : ℕ). labelTo n (c .before .before .args .word)) e
 
 pub label-of-spec : {M : Type 1} → statement M
 label-of-spec =
     tie.close
     (tie.spec
-    mul-result
-    mul-result-2
-    add-result
-    mul-result-3
-    add-result-2
-    mul-result-4
-    add-result-3
-    mul-result-5
-    add-result-4
-    mul-result-6
-    add-result-5
-    mul-result-7
-    add-result-6
-    add-result-7
+    Inv-loop
+    μ-loop
+    loop-holds
+    bit-requires
+    weight-requires
+    mul-label
+    add-label
+    add-k
+    loop-less
+    loop-again
     returns)

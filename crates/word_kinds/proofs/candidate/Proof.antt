@@ -4,9 +4,9 @@ use mathlib.Core.Path.{_≡_, sym, ap}
 use Prim.Native.Nat.{ℕ, zero, suc, _%_, _≤_}
 use native.Mathlib.Omega.{arith}
 use borrow.Author.Needs.{needs}
-use Rattle.word_labels.specs.HashLemmas.{hash, hashedAt}
-use Rattle.word_labels.proofs.candidate.Statement.{statement}
-use Rattle.word_labels.proofs.candidate.Tie as tie
+use Rattle.word_kinds.specs.HashLemmas.{hash, hashedAt}
+use Rattle.word_kinds.proofs.candidate.Statement.{statement}
+use Rattle.word_kinds.proofs.candidate.Tie as tie
 
 at : {h i : ℕ} → h ≡ i → hashedAt i ≡ hashedAt h
 at e = ap hashedAt (sym e)
