@@ -33,10 +33,11 @@ check:
 	rt check
 	@$(MAKE) --no-print-directory test-model test-c test-rust test-programs test-install
 
-# The programs that are installed: target/bin/list, target/bin/list_fields, target/bin/explain and target/bin/summary.
+# The programs that are installed: target/bin/list, target/bin/list_fields, target/bin/list_labels, target/bin/explain and target/bin/summary.
 programs:
 	rt check list
 	rt check list_fields
+	rt check list_labels
 	rt check explain
 	rt check summary
 
@@ -75,6 +76,7 @@ install-files:
 		"$(DESTDIR)$(PREFIX)/share/man/man1" "$(DESTDIR)$(PREFIX)/share/man/man3" "$(DESTDIR)$(PREFIX)/share/man/man5"
 	install -m 755 target/bin/list "$(DESTDIR)$(PREFIX)/bin/lampcygnet-list"
 	install -m 755 target/bin/list_fields "$(DESTDIR)$(PREFIX)/bin/lampcygnet-fields"
+	install -m 755 target/bin/list_labels "$(DESTDIR)$(PREFIX)/bin/lampcygnet-labels"
 	install -m 755 target/bin/explain "$(DESTDIR)$(PREFIX)/bin/lampcygnet-explain"
 	install -m 755 target/bin/summary "$(DESTDIR)$(PREFIX)/bin/lampcygnet-summary"
 	install -m 644 include/lampcygnet.h "$(DESTDIR)$(PREFIX)/include/lampcygnet.h"
@@ -82,6 +84,7 @@ install-files:
 	$(call filled,lampcygnet.pc.in,lib/pkgconfig/lampcygnet.pc)
 	$(call filled,man/lampcygnet-list.1,share/man/man1/lampcygnet-list.1)
 	$(call filled,man/lampcygnet-fields.1,share/man/man1/lampcygnet-fields.1)
+	$(call filled,man/lampcygnet-labels.1,share/man/man1/lampcygnet-labels.1)
 	$(call filled,man/lampcygnet-explain.1,share/man/man1/lampcygnet-explain.1)
 	$(call filled,man/lampcygnet-summary.1,share/man/man1/lampcygnet-summary.1)
 	$(call filled,man/lampcygnet.3,share/man/man3/lampcygnet.3)
@@ -92,8 +95,8 @@ filled = sed -e 's|@PREFIX@|$(PREFIX)|' -e 's|@VERSION@|$(VERSION)|' $(1) > "$(D
 
 # Takes away the files that `install` puts there.
 uninstall:
-	for file in bin/lampcygnet-list bin/lampcygnet-fields bin/lampcygnet-explain bin/lampcygnet-summary include/lampcygnet.h lib/liblampcygnet.a lib/pkgconfig/lampcygnet.pc \
-		share/man/man1/lampcygnet-list.1 share/man/man1/lampcygnet-fields.1 share/man/man1/lampcygnet-explain.1 share/man/man1/lampcygnet-summary.1 share/man/man3/lampcygnet.3 share/man/man5/lampcygnet-sheet.5; do rm -f "$(DESTDIR)$(PREFIX)/$$file"; done
+	for file in bin/lampcygnet-list bin/lampcygnet-fields bin/lampcygnet-labels bin/lampcygnet-explain bin/lampcygnet-summary include/lampcygnet.h lib/liblampcygnet.a lib/pkgconfig/lampcygnet.pc \
+		share/man/man1/lampcygnet-list.1 share/man/man1/lampcygnet-fields.1 share/man/man1/lampcygnet-labels.1 share/man/man1/lampcygnet-explain.1 share/man/man1/lampcygnet-summary.1 share/man/man3/lampcygnet.3 share/man/man5/lampcygnet-sheet.5; do rm -f "$(DESTDIR)$(PREFIX)/$$file"; done
 
 # The programs where an input cannot be read, an output cannot be written, an argument is wrong or a sheet is too long; and beside the model, on sheets and on typed lines.
 test-programs: programs

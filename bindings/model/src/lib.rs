@@ -10,6 +10,7 @@ pub mod explain;
 pub mod fields;
 pub mod figure;
 pub mod generate;
+pub mod labels;
 pub mod listing;
 pub mod reading;
 pub mod reassembly;

@@ -4,6 +4,7 @@ use model::compare::{self, Model, Subject};
 use model::explain;
 use model::figure::{measured_record, quantity_of, QUANTITIES};
 use model::generate::{self, Random};
+use model::labels;
 use model::reading::{self, Reading, Value};
 use model::sheet::{self, Content, Field, LIMIT};
 use model::summary::{self, Summary};
@@ -29,6 +30,31 @@ fn accepted_words_and_legal_records_give_each_other_back() {
         assert_eq!(decode(encode(&record).unwrap()), Ok(record));
     }
     assert!(accepted > 100_000);
+}
+
+/// "Bit k weighing 2^(8-k)": of all 256 bytes the label is the byte turned, turned again it is the byte, and nothing above them counts.
+#[test]
+fn labels_are_bytes_turned() {
+    for byte in 0..=u8::MAX {
+        let label = word::label_of(u32::from(byte));
+        assert_eq!(label, byte.reverse_bits());
+        assert_eq!(word::label_of(u32::from(label)), byte);
+        assert_eq!(word::label_of(0xFFFF_FF00 | u32::from(byte)), label);
+    }
+}
+
+/// The lines of labels: the fifteen of document 01 in its order are among those of all bytes, which are in the bytes' order.
+#[test]
+fn label_lines() {
+    let (table, all) = (labels::label_table(), labels::byte_table());
+    assert_eq!(table.lines().next(), Some("222 10010010 49"));
+    assert_eq!(
+        table.lines().map(|line| u8::from_str_radix(&line[..3], 8).unwrap()).collect::<Vec<_>>(),
+        word::LABELS.map(|row| row.0)
+    );
+    assert!(table.lines().all(|line| all.lines().any(|other| other == line)));
+    assert!(all.lines().enumerate().all(|(byte, line)| line.ends_with(&format!(" {byte:02X}"))));
+    assert_eq!((table.lines().count(), all.lines().count()), (15, 256));
 }
 
 /// Every answer from 1 to 7 is reached by the damaged words, so that comparisons see all of them.

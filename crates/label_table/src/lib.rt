@@ -3,7 +3,6 @@ use labels::Lookup;
 use labels::Row;
 use records::Kind;
 ghost use mathlib.Core.Path.{_≡_};
-ghost use Prim.Native.Nat.{_<_};
 ghost use Rattle.labels.specs.Table.{rows, rowOf, kindAt, findKind};
 
 const ROWS: [Row; 15] = [
@@ -84,12 +83,14 @@ const ROWS: [Row; 15] = [
     },
 ];
 
-// The row at place `i`: the one function that reads the table.
-fn row_at(i: usize) -> Row
-    requires { ⌜ i < 15 ⌝ }
-    ensures { λ r. ⌜ r ≡ rowOf (kindAt i) ⌝ }
+// The row at a place, from 0 to 14, and the first one at any other: the one function that reads the table.
+pub fn row_at(place: usize) -> Row
+    ensures { λ r. ⌜ r ≡ rowOf (kindAt place) ⌝ }
 {
-    ROWS[i]
+    if place < 15 {
+        return ROWS[place];
+    }
+    ROWS[0]
 }
 
 // The row of a kind.

@@ -1,8 +1,8 @@
--- The constant is the table of specs/, masks and labels computed.
+-- The constant is the table of specs/, masks and labels computed. Past its end stands the first row, as the definition has it.
 -- Assumes nothing.
-use mathlib.Core.Path.{_∙_}
+use mathlib.Core.Path.{sym, ap, _∙_}
 use borrow.Author.Needs.{needs}
-use lib.ListN.{List·getD-map}
+use lib.ListN.{List·getD-map, List·getD-eq-default}
 use Rattle.records.specs.declared.Kind.the-variants.{VorAzimuth}
 use Rattle.records.specs.All.{kinds}
 use Rattle.labels.specs.Table.{rows, rowOf}
@@ -18,7 +18,15 @@ array-copy-out-result c = search needs
 
 returns : tie.Need-returns
 unfolding rowOf
-returns c = getD-within rows (c .before .args .i) _ _ (c .before .pre) ∙ List·getD-map rowOf kinds (c .before .args .i) VorAzimuth
+returns c = getD-within rows (c .before .before .args .place) _ _ (c .before .if1 .taken) ∙ List·getD-map rowOf kinds (c .before .before .args .place) VorAzimuth
+
+array-copy-out-result-2 : tie.Need-array-copy-out-result-2
+array-copy-out-result-2 c = search needs
+
+returns-2 : tie.Need-returns-2
+unfolding rowOf
+returns-2 c = ap rowOf (sym (List·getD-eq-default kinds VorAzimuth (c .before .if1 .left)))
 
 pub row-at-spec : {M : Type 1} → statement M
-row-at-spec = tie.close (tie.spec mul-result array-copy-out-result returns)
+row-at-spec =
+    tie.close (tie.spec mul-result array-copy-out-result returns array-copy-out-result-2 returns-2)

@@ -1,0 +1,1 @@
+// Labels as text: the definitions and their laws stand in specs/.
