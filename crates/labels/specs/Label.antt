@@ -12,7 +12,7 @@ use Prim.Native.Nat.{ℕ, zero, suc, _+_, _-_, _*_, _/_, _%_, _^_}
 abbrev pub bit : ℕ → ℕ → ℕ
 bit k w = w / 2 ^ (k - 1) % 2
 
--- bits 1 to n, each weighed and added
+-- bits 1 to n, bit k weighed 2^(8-k), and added
 abbrev pub labelTo : ℕ → ℕ → ℕ
 labelTo zero w = 0
 labelTo (suc n) w = labelTo n w + bit (suc n) w * 2 ^ (8 - suc n)

@@ -19,7 +19,7 @@ fn weight(k: u32) -> u32
     1 << (8 - k)
 }
 
-// The label of a word: bits 1 to 8, each weighed and added, so that bit 1 is its highest binary digit. Of a label it gives the byte that a word has in bits 1 to 8.
+// The label of a word: for k from 1 to 8 bit k is taken, weighed and added, so that bit 1 is the label's highest binary digit. Of a label it gives the byte that a word has in bits 1 to 8.
 pub fn label_of(word: u32) -> u32
     ensures { λ r. ⌜ r ≡ labelOf word ⌝ }
 {
