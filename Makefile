@@ -47,7 +47,7 @@ library:
 
 # The C tests, as C99 and as C++11, on the test vectors.
 test-c: library
-	tests/c/run words crates/test_words/data/words.txt crates/test_figures/data/figures.txt crates/test_figures/data/mls.txt crates/test_reassembly/data/joins.txt crates/test_explain/data/explain.txt
+	tests/c/run words crates/test_words/data/words.txt crates/test_words/data/raster.txt crates/test_figures/data/figures.txt crates/test_figures/data/mls.txt crates/test_reassembly/data/joins.txt crates/test_explain/data/explain.txt
 	tests/c/run sheets crates/test_sheets/data/*/*.bin crates/test_summary/data/summary.txt
 
 # The independent model on the test vectors and on document 01's lines.

@@ -49,10 +49,10 @@ enum lampcygnet_refusal {
 enum lampcygnet_kind {
     LAMPCYGNET_KIND_NONE = 0,                   /* beside a refusal */
     LAMPCYGNET_KIND_VOR_AZIMUTH = 1,            /* 222: status, marker, count of 45/1024 degree */
-    LAMPCYGNET_KIND_VOR_FREQUENCY = 2,          /* 034: status, value in tens of kHz */
+    LAMPCYGNET_KIND_VOR_FREQUENCY = 2,          /* 034: status, value in tens of kHz, a channel under ready and test */
     LAMPCYGNET_KIND_ILS_COURSE = 3,             /* 173: status, inhibit, count of 1/10240 of modulation depth difference */
     LAMPCYGNET_KIND_ILS_GLIDE = 4,              /* 174: status, inhibit, count of 1/5120 of modulation depth difference */
-    LAMPCYGNET_KIND_ILS_FREQUENCY = 5,          /* 033: status, category, value in tens of kHz */
+    LAMPCYGNET_KIND_ILS_FREQUENCY = 5,          /* 033: status, category, value in tens of kHz, a channel under ready and test */
     LAMPCYGNET_KIND_MLS_FREQUENCY = 6,          /* 036: status, value in tens of kHz */
     LAMPCYGNET_KIND_MLS_AZIMUTH_DEVIATION = 7,  /* 151: status, inhibit, clearance, count of 75/1024 mV */
     LAMPCYGNET_KIND_MLS_GLIDE_DEVIATION = 8,    /* 152: status, inhibit, clearance, count of 75/1024 mV */
@@ -121,7 +121,7 @@ struct lampcygnet_record lampcygnet_decode(uint32_t word);
 
 /*
  * The word of a record. Refused 2 where `kind` is not from 1 to 15, else 4 where a code of the kind or the source is outside its list, else 6
- * where another field of the kind is not legal, as a flag above 1. `refusal` and the fields that the kind has not are not looked at; the word's record has 0 there.
+ * where another field of the kind is not legal, as a flag above 1 or a VOR frequency of 178.33 MHz that is ready. `refusal` and the fields that the kind has not are not looked at; the word's record has 0 there.
  */
 struct lampcygnet_word lampcygnet_encode(struct lampcygnet_record fields);
 

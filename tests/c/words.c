@@ -1,6 +1,6 @@
 /*
  * The word part of the library, called from C and from C++: the layout of its structures, document 01's lines, and the files of test vectors that
- * are named on the command line, line by line: words*, joins*, explain*, and any other name for figures.
+ * are named on the command line, line by line: words* and raster*, joins*, explain*, and any other name for figures.
  */
 #include "expect.h"
 #include "lampcygnet.h"
@@ -234,6 +234,71 @@ static void test_encoding(void)
     r = example(LAMPCYGNET_KIND_PART_1);
     r.value = 256;
     EXPECT(lampcygnet_encode(r).refusal == LAMPCYGNET_REFUSED_VALUE);
+}
+
+/* VOR and ILS words off the raster: 178.33 under ready, test, nodata and ready with a minus; 108.10 is of ILS, 112.00 of VOR. */
+static void test_raster(void)
+{
+    struct lampcygnet_record r = decoded(UINT32_C(0xBE0CC038));
+    EXPECT(r.kind == LAMPCYGNET_KIND_VOR_FREQUENCY && r.status == LAMPCYGNET_STATUS_NODATA && r.value == 17833);
+    EXPECT(decoded(UINT32_C(0x1E0CC038)).refusal == LAMPCYGNET_REFUSED_VALUE);
+    EXPECT(decoded(UINT32_C(0xDE0CC038)).refusal == LAMPCYGNET_REFUSED_VALUE);
+    EXPECT(decoded(UINT32_C(0x7E0CC038)).refusal == LAMPCYGNET_REFUSED_CODE);
+    r = decoded(UINT32_C(0x3E0CC0D8));
+    EXPECT(r.kind == LAMPCYGNET_KIND_ILS_FREQUENCY && r.status == LAMPCYGNET_STATUS_NODATA && r.value == 17833);
+    EXPECT(decoded(UINT32_C(0x9E0CC0D8)).refusal == LAMPCYGNET_REFUSED_VALUE);
+    EXPECT(decoded(UINT32_C(0x5E0CC0D8)).refusal == LAMPCYGNET_REFUSED_VALUE);
+    EXPECT(decoded(UINT32_C(0xFE0CC0D8)).refusal == LAMPCYGNET_REFUSED_CODE);
+    r = decoded(UINT32_C(0x820400D8));
+    EXPECT(r.kind == LAMPCYGNET_KIND_ILS_FREQUENCY && r.status == LAMPCYGNET_STATUS_READY && r.value == 10810);
+    EXPECT(decoded(UINT32_C(0x02040038)).refusal == LAMPCYGNET_REFUSED_VALUE);
+    r = decoded(UINT32_C(0xC4800038));
+    EXPECT(r.kind == LAMPCYGNET_KIND_VOR_FREQUENCY && r.status == LAMPCYGNET_STATUS_TEST && r.value == 11200);
+    EXPECT(decoded(UINT32_C(0x448000D8)).refusal == LAMPCYGNET_REFUSED_VALUE);
+    EXPECT(lampcygnet_reading_of(UINT32_C(0x1E0CC038)).refusal == LAMPCYGNET_REFUSED_VALUE);
+    EXPECT(lampcygnet_explain(UINT32_C(0x1E0CC038), 0).refusal == LAMPCYGNET_REFUSED_VALUE);
+    EXPECT(lampcygnet_explain(UINT32_C(0xBE0CC038), 0).refusal == LAMPCYGNET_REFUSED_LABEL);
+}
+
+/* The refusal of a frequency as a record; if there is none, its word is decoded to the record. */
+static int frequency_refusal(uint8_t kind, uint8_t status, uint32_t frequency)
+{
+    struct lampcygnet_record r = example(kind);
+    struct lampcygnet_word w;
+    r.status = status;
+    r.value = frequency;
+    w = lampcygnet_encode(r);
+    EXPECT(w.refusal == LAMPCYGNET_ACCEPTED ? is_same(decoded(w.word), r) : w.word == 0);
+    return w.refusal;
+}
+
+/* Every frequency up to 200 MHz as a record of VOR and of ILS: under ready and test 160 and 40 are channels, none of both; under nodata all digits pass. */
+static void test_channels(void)
+{
+    static const uint8_t kinds[2] = {LAMPCYGNET_KIND_VOR_FREQUENCY, LAMPCYGNET_KIND_ILS_FREQUENCY};
+    static const uint8_t statuses[2] = {LAMPCYGNET_STATUS_READY, LAMPCYGNET_STATUS_TEST};
+    int channels[2] = {0, 0};
+    uint32_t frequency;
+    int i;
+    int j;
+    for (frequency = 0; frequency <= 20000; frequency++) {
+        const int on_raster = 10800 <= frequency && frequency <= 11795 && frequency % 5 == 0;
+        const int is_ils = on_raster && frequency < 11200 && frequency / 10 % 2 == 1;
+        const int is_legal[2] = {on_raster && !is_ils, is_ils};
+        for (i = 0; i < 2; i++) {
+            const int digits = 10000 <= frequency && frequency <= 17999;
+            channels[i] += is_legal[i];
+            for (j = 0; j < 2; j++) {
+                EXPECT(frequency_refusal(kinds[i], statuses[j], frequency) == (is_legal[i] ? LAMPCYGNET_ACCEPTED : LAMPCYGNET_REFUSED_VALUE));
+            }
+            EXPECT(frequency_refusal(kinds[i], LAMPCYGNET_STATUS_NODATA, frequency) == (digits ? LAMPCYGNET_ACCEPTED : LAMPCYGNET_REFUSED_VALUE));
+            EXPECT(frequency_refusal(kinds[i], LAMPCYGNET_STATUS_FAILURE, frequency) == LAMPCYGNET_REFUSED_CODE);
+        }
+    }
+    EXPECT(channels[0] == 160 && channels[1] == 40);
+    /* the frequency of MLS has its rule under every status */
+    EXPECT(frequency_refusal(LAMPCYGNET_KIND_MLS_FREQUENCY, LAMPCYGNET_STATUS_NODATA, 503130) == LAMPCYGNET_ACCEPTED);
+    EXPECT(frequency_refusal(LAMPCYGNET_KIND_MLS_FREQUENCY, LAMPCYGNET_STATUS_NODATA, 503140) == LAMPCYGNET_REFUSED_VALUE);
 }
 
 static void test_readings(void)
@@ -495,7 +560,7 @@ static void run_file(const char *path)
     }
     while (fgets(text, (int)sizeof text, file) != NULL) {
         line++;
-        if (strncmp(name, "words", 5) == 0) {
+        if (strncmp(name, "words", 5) == 0 || strncmp(name, "raster", 6) == 0) {
             word_line(text, line);
         } else if (strncmp(name, "joins", 5) == 0) {
             join_line(&held, text, line);
@@ -516,6 +581,8 @@ int main(int argc, char **argv)
     test_decoding();
     test_encoding();
     test_flags();
+    test_raster();
+    test_channels();
     test_readings();
     test_figures();
     test_explaining();

@@ -127,6 +127,13 @@ pub fn record(subject: &dyn Subject, record: &Record) -> Outcome {
     same(|| format!("encode {record:?}"), subject.encode(record), word::encode(record))
 }
 
+/// Every frequency as a record of each kind under each status, and every four digits in a word of each.
+pub fn frequencies(subject: &dyn Subject) -> Outcome {
+    generate::every_frequency().try_for_each(|frequency| record(subject, &frequency))?;
+    let mut words = [0o034, 0o033, 0o036].into_iter().flat_map(generate::words_of_every_digit);
+    words.try_for_each(|number| word(subject, number))
+}
+
 /// One figure.
 pub fn figure(subject: &dyn Subject, label: u8, source: u8, millionths: i64) -> Outcome {
     same(

@@ -4,7 +4,7 @@ use crate::explain::LINE_MOST;
 use crate::figure::{self, Quantity, QUANTITIES};
 use crate::sheet::{self, Content, LIMIT};
 use crate::summary;
-use crate::word::{self, Body, Record, LABELS};
+use crate::word::{self, Body, Record, ILS_CHANNELS, LABELS, NODATA, VOR_CHANNELS};
 use std::collections::BTreeSet;
 
 /// The splitmix64 generator.
@@ -98,14 +98,26 @@ pub fn legal_word(random: &mut Random) -> u32 {
     word::encode(&legal_record(random)).expect("a legal record")
 }
 
-/// A legal word with one bit changed; half the time its parity is made right again, so that a later test sees the damage.
+/// A legal word with one bit changed; half the time its parity is made right again, so that a later test sees the damage. A word
+/// of a frequency has a digit changed half the time, as recognition gives it.
 pub fn damaged_word(random: &mut Random) -> u32 {
-    let word = legal_word(random) ^ 1 << random.below(32);
+    let legal = legal_word(random);
+    if word::is_frequency(word::label_of(legal)) && random.flag() {
+        return misread_word(random, legal);
+    }
+    let word = legal ^ 1 << random.below(32);
     if random.flag() {
         word
     } else {
         with_parity(word)
     }
+}
+
+/// A word of a frequency with one of its four digits drawn anew; the tens have three bits.
+fn misread_word(random: &mut Random, word: u32) -> u32 {
+    let &(shift, bits, greatest) = random.pick(&[(14, 15, 9), (18, 15, 9), (22, 15, 9), (26, 7, 7)]);
+    let digit = random.below(greatest + 1) as u32;
+    with_parity(word & !(bits << shift) | digit << shift)
 }
 
 /// A word of any of these sorts.
@@ -127,6 +139,34 @@ fn edged(random: &mut Random, least: i64, greatest: i64) -> i64 {
     }
 }
 
+/// Where the rules of VOR and ILS frequencies change: the ends of all digits and of the channels, the first and the last of ILS, the
+/// first VOR channels beside it and above it; and the frequency that recognition gave.
+pub const SEAMS: [i64; 11] = [10_000, 10_800, 10_805, 10_810, 10_820, 11_195, 11_200, 11_795, 11_800, 17_833, 17_999];
+
+/// A legal frequency of VOR or ILS: a channel under ready and test, at a seam more often than chance; any digits under nodata, many
+/// beside a seam.
+fn legal_frequency(random: &mut Random, channels: &[i64], status: u8) -> i64 {
+    let seam = *random.pick(&SEAMS);
+    let at_seam = random.flag();
+    match status {
+        NODATA if at_seam => (seam + random.within(-1, 1)).clamp(10_000, 17_999),
+        NODATA => edged(random, 10_000, 17_999),
+        _ if at_seam && channels.contains(&seam) => seam,
+        _ => *random.pick(channels),
+    }
+}
+
+/// A frequency of VOR or ILS, legal or not: beside a seam, on the raster of 50 kHz about the channels, a channel, or stray.
+pub fn any_frequency(random: &mut Random) -> i64 {
+    match random.below(5) {
+        0 | 1 => random.pick(&SEAMS) + random.within(-1, 1),
+        2 => 5 * random.within(10_700 / 5, 11_900 / 5),
+        3 if random.flag() => *random.pick(&ILS_CHANNELS),
+        3 => *random.pick(&VOR_CHANNELS),
+        _ => stray(random, 10_000, 17_999),
+    }
+}
+
 /// A legal record of any of the fifteen labels.
 pub fn legal_record(random: &mut Random) -> Record {
     let label = random.pick(&LABELS).0;
@@ -142,7 +182,8 @@ pub fn legal_record_of(random: &mut Random, label: u8) -> Record {
     let code = random.below(4) as u8;
     let count = edged(random, -4096, 4095);
     let long = edged(random, -32768, 32767);
-    let frequency = edged(random, 10_000, 17_999);
+    let channels = if label == 0o033 { &ILS_CHANNELS } else { &VOR_CHANNELS };
+    let frequency = legal_frequency(random, channels, decimal);
     let byte = edged(random, 0, 255);
     let content = edged(random, 0, 65535);
     let body = match label {
@@ -191,7 +232,7 @@ pub fn any_record(random: &mut Random) -> Record {
         }
         Body::VorFrequency { status, frequency } => {
             *status = odd_code.unwrap_or(*status);
-            *frequency = stray(random, 10_000, 17_999);
+            *frequency = any_frequency(random);
         }
         Body::IlsCourse { status, count, .. } | Body::IlsGlide { status, count, .. } => {
             *status = odd_code.unwrap_or(*status);
@@ -200,7 +241,7 @@ pub fn any_record(random: &mut Random) -> Record {
         Body::IlsFrequency { status, category, frequency } => {
             *status = odd_code.unwrap_or(*status);
             *category = if random.once_in(4) { random.below(8) as u8 } else { *category };
-            *frequency = stray(random, 10_000, 17_999);
+            *frequency = any_frequency(random);
         }
         Body::MlsFrequency { status, frequency } => {
             *status = odd_code.unwrap_or(*status);
@@ -235,6 +276,31 @@ pub fn any_record(random: &mut Random) -> Record {
         }
     }
     record
+}
+
+/// Every frequency from 0 to 200 MHz, and every one from below 5000 to above 5100 MHz, as a record of each of the three kinds under each
+/// of the four statuses.
+pub fn every_frequency() -> impl Iterator<Item = Record> {
+    (0..=20_000).chain(499_900..=510_100).flat_map(|frequency| {
+        let (source, category) = ((frequency % 4) as u8, (frequency / 4 % 4) as u8);
+        (0..4).flat_map(move |status| {
+            let bodies = [
+                Body::VorFrequency { status, frequency },
+                Body::IlsFrequency { status, category, frequency },
+                Body::MlsFrequency { status, frequency },
+            ];
+            bodies.map(|body| Record { source, body })
+        })
+    })
+}
+
+/// The words of a frequency's label with every four decimal digits, under each of the four codes of bits 30 and 31.
+pub fn words_of_every_digit(label: u8) -> impl Iterator<Item = u32> {
+    (0..8000u32).flat_map(move |number| {
+        let digit = |weight: u32| number / weight % 10;
+        let digits = digit(1) << 14 | digit(10) << 18 | digit(100) << 22 | digit(1000) << 26;
+        (0..4).map(move |status| with_parity(u32::from(label.reverse_bits()) | digits | status << 29))
+    })
 }
 
 /// A course word and a glide word for a chart point: of one source mostly; here and there exchanged, or any word.

@@ -1,5 +1,8 @@
 //! The word: word to record and record to word.
 
+use std::ops::RangeInclusive;
+use std::sync::LazyLock;
+
 /// Status codes of a record, in the order in which the document names them.
 pub const FAILURE: u8 = 0;
 pub const NODATA: u8 = 1;
@@ -97,12 +100,36 @@ fn mls_frequency(word: u32) -> i64 {
     500_000 + 1000 * tens + 100 * units + 10 * tenths + hundredths
 }
 
+/// The frequencies, in tens of kHz, that are printed with these whole MHz, these tenths and "hundredths 0 or 5".
+fn printed_with(mhz: RangeInclusive<i64>, tenths: &[i64]) -> Vec<i64> {
+    let mhz_and_tenths = mhz.flat_map(|mhz| tenths.iter().map(move |tenth| (mhz, tenth)));
+    mhz_and_tenths.flat_map(|(mhz, tenth)| [0, 5].map(|hundredth| 100 * mhz + 10 * tenth + hundredth)).collect()
+}
+
+/// Request 5 of ILS: "one of the forty from 108.10 to 111.95 with odd tenths and hundredths 0 or 5 (ICAO Annex 10)".
+pub static ILS_CHANNELS: LazyLock<Vec<i64>> = LazyLock::new(|| printed_with(108..=111, &[1, 3, 5, 7, 9]));
+
+/// Request 5 of VOR: "from 108.00 to 117.95 with hundredths 0 or 5 and not one of those forty".
+pub static VOR_CHANNELS: LazyLock<Vec<i64>> = LazyLock::new(|| {
+    let mut channels = printed_with(108..=117, &[0, 1, 2, 3, 4, 5, 6, 7, 8, 9]);
+    channels.retain(|frequency| !ILS_CHANNELS.contains(frequency));
+    channels
+});
+
+/// Request 5 of VOR and ILS: a channel "Under ready or test"; "Under nodata any decimal digits stay legal for these two".
+fn is_legal_frequency(channels: &[i64], status: u8, frequency: i64) -> bool {
+    match status {
+        READY | TEST => channels.contains(&frequency),
+        _ => (10_000..=17_999).contains(&frequency),
+    }
+}
+
 /// "A legal MLS frequency is 5031.0 + 0.3 k MHz, k from 0 to 199."
 pub fn is_mls_frequency(frequency: i64) -> bool {
     (0..200).any(|k| frequency == 503_100 + 30 * k)
 }
 
-fn is_frequency(label: u8) -> bool {
+pub fn is_frequency(label: u8) -> bool {
     matches!(label, 0o034 | 0o033 | 0o036)
 }
 
@@ -155,11 +182,13 @@ pub fn breaks_4(word: u32) -> bool {
     }
 }
 
-/// "6: a value not legal": "Selected azimuth is 0 to 359", and the MLS frequencies. "All tests here hold under every
-/// status."
+/// "6: a value not legal": "Selected azimuth is 0 to 359", and the frequencies. "All tests here hold under every status", but
+/// for request 5's of 034 and 033, which nodata is exempt from.
 pub fn breaks_6(word: u32) -> bool {
     match label_of(word) {
         0o153 => bits(word, 20, 28) > 359,
+        0o034 => !is_legal_frequency(&VOR_CHANNELS, decimal_status(word), vor_frequency(word)),
+        0o033 => !is_legal_frequency(&ILS_CHANNELS, decimal_status(word), vor_frequency(word)),
         0o036 => !is_mls_frequency(mls_frequency(word)),
         _ => false,
     }
@@ -321,9 +350,8 @@ fn values_in_lists(record: &Record) -> bool {
             (-4096..=4095).contains(&count)
         }
         Body::MlsAzimuth { count, .. } | Body::MlsGlide { count, .. } => (-32768..=32767).contains(&count),
-        Body::VorFrequency { frequency, .. } | Body::IlsFrequency { frequency, .. } => {
-            (10_000..=17_999).contains(&frequency)
-        }
+        Body::VorFrequency { status, frequency } => is_legal_frequency(&VOR_CHANNELS, status, frequency),
+        Body::IlsFrequency { status, frequency, .. } => is_legal_frequency(&ILS_CHANNELS, status, frequency),
         Body::MlsFrequency { frequency, .. } => is_mls_frequency(frequency),
         Body::SelectedAzimuth { degrees, .. } => (0..=359).contains(&degrees),
         Body::GreatestGlide { tenths, .. } => (0..=255).contains(&tenths),

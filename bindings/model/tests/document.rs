@@ -399,6 +399,135 @@ fn with_odd_ones(word: u32) -> u32 {
     model::generate::with_parity(word)
 }
 
+/// The word of source 0 with the digits of a printed frequency and these bits 30 and 31, the first lowest: 0 ready, 1 nodata, 2 test.
+fn frequency_word(label: u8, status: u32, printed: &str) -> u32 {
+    let digits: Vec<u32> = printed.chars().rev().filter_map(|sign| sign.to_digit(10)).collect();
+    let placed = digits[0] << 14 | digits[1] << 18 | digits[2] << 22 | digits[3] << 26;
+    with_odd_ones(u32::from(label.reverse_bits()) | placed | status << 29)
+}
+
+/// The refusals of a printed frequency under ready, nodata and test, 0 where it is accepted: its word has the same as its record.
+fn told(label: u8, printed: &str) -> [u8; 3] {
+    let frequency = printed.replace('.', "").parse().unwrap();
+    [(READY, 0), (NODATA, 1), (TEST, 2)].map(|(status, bits)| {
+        let body = match label {
+            0o034 => Body::VorFrequency { status, frequency },
+            0o033 => Body::IlsFrequency { status, category: 0, frequency },
+            _ => Body::MlsFrequency { status, frequency },
+        };
+        let (word, record) = (frequency_word(label, bits, printed), Record { source: 0, body });
+        assert_eq!(encode(&record), decode(word).map(|_| word), "{record:?}");
+        assert!(decode(word).is_ok_and(|decoded| decoded == record) || decode(word) == Err(6), "{record:?}");
+        decode(word).err().unwrap_or(0)
+    })
+}
+
+/// Request 5: "Recognition gave us VOR 178.33 and nobody noticed, as any digits pass." "Under nodata any decimal digits stay legal";
+/// 036 has its rule under every status.
+#[test]
+fn frequencies_off_the_raster() {
+    let (legal, refused) = ([0; 3], [6, 0, 6]);
+    for (printed, vor, ils) in [
+        ("178.33", refused, refused),
+        ("100.00", refused, refused),
+        ("107.95", refused, refused),
+        ("108.00", legal, refused),
+        ("108.05", legal, refused),
+        ("108.09", refused, refused),
+        ("108.10", refused, legal),
+        ("108.11", refused, refused),
+        ("108.15", refused, legal),
+        ("108.20", legal, refused),
+        ("110.35", refused, legal),
+        ("110.45", legal, refused),
+        ("111.95", refused, legal),
+        ("112.00", legal, refused),
+        ("112.05", legal, refused),
+        ("112.10", legal, refused),
+        ("113.20", legal, refused),
+        ("113.24", refused, refused),
+        ("117.95", legal, refused),
+        ("118.00", refused, refused),
+        ("179.99", refused, refused),
+    ] {
+        assert_eq!(told(0o034, printed), vor, "VOR {printed}");
+        assert_eq!(told(0o033, printed), ils, "ILS {printed}");
+    }
+    for (printed, answers) in [("5031.00", legal), ("5031.30", legal), ("5031.05", [6; 3]), ("5031.10", [6; 3])] {
+        assert_eq!(told(0o036, printed), answers, "MLS {printed}");
+    }
+    assert_eq!([decode(0x1E0C_C038), decode(0xDE0C_C038)], [Err(6); 2]);
+    let body = Body::VorFrequency { status: NODATA, frequency: 17_833 };
+    assert_eq!(decode(0xBE0C_C038), Ok(Record { source: 0, body }));
+}
+
+/// "Refusals: 6, at its old place, for words and for records."
+#[test]
+fn raster_refused_after_5_and_4() {
+    for label in [0o034, 0o033] {
+        let word = frequency_word(label, 0, "178.33");
+        assert_eq!(decode(word), Err(6));
+        assert_eq!(decode(word ^ 1 << 31), Err(1));
+        assert_eq!(decode(with_odd_ones(word | 1 << 12)), Err(3));
+        assert_eq!(decode(with_odd_ones(word | 15 << 14)), Err(5));
+        assert_eq!(decode(with_odd_ones(word | 15 << 14 | 3 << 29)), Err(5));
+        assert_eq!(decode(with_odd_ones(word | 3 << 29)), Err(4));
+        // No channel has this status, either.
+        assert_eq!(decode(frequency_word(label, 3, "112.00")), Err(4));
+        assert_eq!(decode(frequency_word(label, 3, "108.10")), Err(4));
+    }
+    for frequency in [17_833, 10_000, 9_999, 0] {
+        let vor = |source, status| encode(&Record { source, body: Body::VorFrequency { status, frequency } });
+        let ils =
+            |status, category| encode(&Record { source: 3, body: Body::IlsFrequency { status, category, frequency } });
+        assert_eq!([vor(0, FAILURE), vor(0, 4), vor(4, READY), vor(4, NODATA)], [Err(4); 4]);
+        assert_eq!([ils(FAILURE, 1), ils(READY, 4), ils(NODATA, 4), ils(TEST, 255)], [Err(4); 4]);
+        assert_eq!([vor(0, READY), vor(3, TEST), ils(READY, 0), ils(TEST, 3)], [Err(6); 4]);
+        let digits = frequency >= 10_000;
+        assert!([vor(3, NODATA), ils(NODATA, 3)].iter().all(|word| word.is_ok() == digits));
+    }
+}
+
+/// "One of the forty", and 160 of VOR: none is both, and together they are every 50 kHz from 108.00 to 117.95.
+#[test]
+fn channels() {
+    let (vor, ils) = (&*word::VOR_CHANNELS, &*word::ILS_CHANNELS);
+    assert_eq!((vor.len(), vor.first(), vor.last()), (160, Some(&10_800), Some(&11_795)));
+    assert_eq!((ils.len(), ils.first(), ils.last()), (40, Some(&10_810), Some(&11_195)));
+    assert!(ils.iter().all(|channel| !vor.contains(channel)));
+    let mut both = [&vor[..], ils].concat();
+    both.sort_unstable();
+    assert!(both.into_iter().eq((10_800..=11_795).step_by(5)));
+}
+
+/// "Accepted of 034 33280, of 033 129280, the others as before": four times the words of source 0, and sixteen times those that are of
+/// no category as well.
+#[test]
+fn accepted_frequencies() {
+    for (label, times, accepted) in [(0o034, 4, 33_280), (0o033, 16, 129_280), (0o036, 4, 2_400)] {
+        let words = generate::words_of_every_digit(label).filter(|&word| decode(word).is_ok());
+        assert_eq!(times * words.count(), accepted, "{label:03o}");
+    }
+}
+
+/// "Whoever decodes, writes, lists or explains must follow."
+#[test]
+fn raster_everywhere() {
+    let (off, without_data) = (frequency_word(0o034, 0, "178.33"), frequency_word(0o034, 1, "178.33"));
+    let (vor, ils) = (frequency_word(0o034, 0, "112.00"), frequency_word(0o033, 2, "108.10"));
+    assert_eq!((value(vor), value(ils)), (Value::Frequency(11_200), Value::Frequency(10_810)));
+    assert_eq!([off, without_data, vor, ils].map(|word| explain(word, 0)), [Err(6), Err(2), Err(2), Err(2)]);
+    let sheet = sheet_of(&[off, without_data, vor, ils, frequency_word(0o033, 2, "108.20")]);
+    let text = "refused 6\n034 0 nodata -\n034 0 ready 112.00\n033 0 test 108.10\nrefused 6\nwords 5 refused 2\n";
+    assert_eq!(list(&sheet), text);
+    let summary = summarize(&sheet, 0o173, 0).unwrap();
+    assert_eq!([summary.refused, summary.other, summary.words], [2, 3, 5]);
+    assert_eq!(reading::chart_point(off, 0), Err(6));
+    assert_eq!(reading::chart_point(code(0o173, 0, 0).unwrap(), off), Err(6));
+    // At the joiner a word of another label is 2, whatever else is wrong with it.
+    assert_eq!(step(None, off), (None, Answer::Refused(2)));
+}
+
 #[test]
 fn chart_points() {
     let word = |source, body| encode(&Record { source, body }).unwrap();

@@ -8,9 +8,9 @@ use model::labels;
 use model::reading::{self, Reading, Value};
 use model::sheet::{self, Content, Field, LIMIT};
 use model::summary::{self, Summary};
-use model::word::{self, Body, READY, TEST};
+use model::word::{self, Body, Record, FAILURE, NODATA, READY, TEST};
 use model::{code, decode, encode, explain_text, print_millionths};
-use std::collections::BTreeSet;
+use std::collections::{BTreeMap, BTreeSet};
 
 #[test]
 fn accepted_words_and_legal_records_give_each_other_back() {
@@ -66,6 +66,58 @@ fn damaged_words_reach_every_refusal() {
         seen[usize::from(decode(generate::any_word(&mut random)).err().unwrap_or(0))] += 1;
     }
     assert!(seen.iter().all(|&times| times > 50), "{seen:?}");
+}
+
+/// Words and records of frequencies, made for comparisons, reach every answer that each label has under each status: 6 everywhere
+/// but in VOR and ILS words without data, whose digits are all legal.
+#[test]
+fn frequencies_reach_every_answer() {
+    let mut random = Random::from_environment("frequencies", 13);
+    let (mut words, mut records) = (BTreeMap::new(), BTreeMap::new());
+    for _ in 0..200_000 {
+        let word = generate::any_word(&mut random);
+        *words.entry((word::label_of(word), word >> 29 & 3, decode(word).err())).or_insert(0) += 1;
+        let record = generate::any_record(&mut random);
+        let key = (word::label_of_record(&record), word::status_of(&record), encode(&record).err());
+        *records.entry(key).or_insert(0) += 1;
+    }
+    let often = |times: Option<&i32>| times.is_some_and(|&times| times > 30);
+    for label in [0o034, 0o033, 0o036] {
+        for (bits, always_legal) in [(0, false), (1, label != 0o036), (2, false)] {
+            assert!(often(words.get(&(label, bits, None))), "{label:03o} {bits}");
+            assert_eq!(often(words.get(&(label, bits, Some(6)))), !always_legal, "{label:03o} {bits}");
+        }
+        assert!(often(words.get(&(label, 3, Some(4)))), "{label:03o}");
+        for status in [NODATA, TEST, READY] {
+            for answer in [None, Some(6)] {
+                assert!(often(records.get(&(label, Some(status), answer))), "{label:03o} {status} {answer:?}");
+            }
+        }
+        assert!(often(records.get(&(label, Some(FAILURE), Some(4)))), "{label:03o}");
+    }
+}
+
+/// Legal records meet every channel, and under nodata frequencies on both sides of each seam.
+#[test]
+fn legal_frequencies_meet_channels_and_seams() {
+    let mut random = Random::from_environment("legal frequencies", 14);
+    let mut met = BTreeSet::new();
+    for label in [0o034, 0o033].into_iter().cycle().take(100_000) {
+        match generate::legal_record_of(&mut random, label).body {
+            Body::VorFrequency { status, frequency } | Body::IlsFrequency { status, frequency, .. } => {
+                met.insert((label, status, frequency));
+            }
+            body => panic!("{body:?}"),
+        }
+    }
+    for (label, channels) in [(0o034, &*word::VOR_CHANNELS), (0o033, &*word::ILS_CHANNELS)] {
+        for status in [TEST, READY] {
+            assert!(channels.iter().all(|&channel| met.contains(&(label, status, channel))), "{label:03o} {status}");
+        }
+        let beside = generate::SEAMS.iter().flat_map(|seam| seam - 1..=seam + 1);
+        let mut digits = beside.filter(|frequency| (10_000..=17_999).contains(frequency));
+        assert!(digits.all(|frequency| met.contains(&(label, NODATA, frequency))), "{label:03o}");
+    }
 }
 
 /// The nearest of a few counts is the nearest of all: at every boundary of the 13-bit quantities near the ends, at random
@@ -393,6 +445,13 @@ fn the_model_agrees_with_itself() {
 struct Wrong;
 
 impl Subject for Wrong {
+    /// The last ILS channel is taken as one of VOR.
+    fn encode(&self, record: &Record) -> Result<u32, u8> {
+        match record.body {
+            Body::VorFrequency { status: READY, frequency: 11_195 } => Ok(0x0465_4038),
+            _ => encode(record),
+        }
+    }
     /// The last figure before a half step goes to the next count.
     fn code(&self, label: u8, source: u8, millionths: i64) -> Result<u32, u8> {
         match millionths {
@@ -452,10 +511,19 @@ impl Subject for Wrong {
 }
 
 #[test]
+fn comparison_of_frequencies() {
+    let vor = |frequency| Record { source: 0, body: Body::VorFrequency { status: READY, frequency } };
+    assert!(compare::record(&Wrong, &vor(11_190)).is_ok());
+    assert!(compare::record(&Wrong, &vor(11_195)).is_err());
+    assert!(compare::frequencies(&Wrong).is_err());
+    assert!(compare::frequencies(&Model).is_ok());
+}
+
+#[test]
 fn comparison_finds_differences() {
     assert!(compare::figure(&Wrong, 0o151, 0, 36_621).is_err());
     assert!(compare::figure(&Wrong, 0o151, 0, 36_620).is_ok());
-    let word = |body| encode(&word::Record { source: 0, body }).unwrap();
+    let word = |body| encode(&Record { source: 0, body }).unwrap();
     let course = word(Body::IlsCourse { status: READY, inhibit: false, count: 1 });
     let glide = |count| word(Body::IlsGlide { status: READY, inhibit: false, count });
     assert!(compare::chart_point(&Wrong, course, glide(0)).is_err());

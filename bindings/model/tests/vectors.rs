@@ -24,7 +24,8 @@ fn hex(text: &str) -> u32 {
 
 #[test]
 fn words() {
-    for line in lines("test_words/data/words.txt", 900) {
+    let words = lines("test_words/data/words.txt", 900);
+    for line in words.into_iter().chain(lines("test_words/data/raster.txt", 900)) {
         let word = hex(&line[0]);
         let (refusal, count) = match model::decode(word) {
             Ok(record) => (0, word::count_of(&record).unwrap_or(0)),
@@ -120,7 +121,7 @@ fn sheets() {
         fs::read_dir(data("test_sheets/data/sheets")).unwrap().map(|entry| entry.unwrap().path()).collect();
     names.retain(|name| name.extension().is_some_and(|extension| extension == "bin"));
     names.sort();
-    assert!(names.len() >= 81, "{} sheets", names.len());
+    assert!(names.len() >= 82, "{} sheets", names.len());
     for name in names {
         let expected = fs::read_to_string(name.with_extension("txt")).unwrap();
         assert_eq!(model::list(&fs::read(&name).unwrap()), expected, "{}", name.display());

@@ -39,6 +39,8 @@ pub enum Body {
         marker: Marker,
         count: i16,
     },
+    /// Under ready and test the frequency is a channel: a multiple of 50 kHz from 108.00 to 117.95 MHz that is none of ILS; under
+    /// nodata it is anything from 100.00 to 179.99 MHz. Anything else is refused 6.
     VorFrequency {
         status: Status,
         frequency: u32,
@@ -53,11 +55,14 @@ pub enum Body {
         inhibit: bool,
         count: i16,
     },
+    /// Under ready and test the frequency is a channel: one of the forty from 108.10 to 111.95 MHz with odd tenths and hundredths 0 or
+    /// 5; under nodata it is anything from 100.00 to 179.99 MHz. Anything else is refused 6.
     IlsFrequency {
         status: Status,
         category: Category,
         frequency: u32,
     },
+    /// The frequency is a channel under every status: one of the 200 from 5031.00 to 5090.70 MHz, 300 kHz apart. Anything else is refused 6.
     MlsFrequency {
         status: Status,
         frequency: u32,
@@ -137,6 +142,8 @@ impl Record {
     /// let record = Record { source: 0, body: Body::VorFrequency { status: Status::Ready, frequency: 11320 } };
     /// assert_eq!(record.encode(), Ok(0x04C80038));
     /// assert_eq!(Record { source: 4, ..record }.encode(), Err(Refusal::Code));
+    /// let no_channel = Body::VorFrequency { status: Status::Ready, frequency: 17833 };
+    /// assert_eq!(Record { source: 0, body: no_channel }.encode(), Err(Refusal::Value));
     /// ```
     pub fn encode(&self) -> Result<u32, Refusal> {
         // The function takes every value of its fields and writes to no memory.

@@ -46,6 +46,12 @@ fn words_of_every_label() {
     });
 }
 
+/// Every frequency as a record of VOR, ILS and MLS under every status, on a channel or off it, and every four digits in their words.
+#[test]
+fn every_frequency() {
+    compare::frequencies(&Library).unwrap();
+}
+
 /// The figures at and beside every boundary of each quantity, and every count printed.
 #[test]
 fn figures_at_every_boundary() {
@@ -219,7 +225,7 @@ fn damaged_vectors() {
             }
         }
     }
-    assert!(sheets >= 81, "{sheets} sheets");
+    assert!(sheets >= 82, "{sheets} sheets");
 }
 
 /// Fields of every sort at random places of buffers of random lengths.

@@ -55,13 +55,14 @@ fn any_numbers(random: &mut Random) -> ffi::Record {
     if random.flag() {
         // The function takes any numbers and writes to no memory.
         numbers = unsafe { ffi::lampcygnet_decode(generate::legal_word(random)) };
-        match random.below(8) {
+        match random.below(9) {
             0 => numbers.status = byte(random),
             1 => numbers.marker = byte(random),
             2 => numbers.category = byte(random),
             3 => (numbers.inhibit, numbers.clearance) = (byte(random), byte(random)),
             4 => (numbers.manual, numbers.parity_good) = (byte(random), byte(random)),
             5 => numbers.value ^= 1 << random.below(32),
+            6 => numbers.value = generate::any_frequency(random) as u32,
             _ => numbers.source = byte(random),
         }
     }
@@ -535,14 +536,14 @@ fn summaries_of_any_numbers() {
 }
 
 /// The example flight, worked out by hand: of source 1 two ready course words, with the counts 126 and 128, and one under failure, a
-/// ready glide word and one with no data; of source 2 a ready word of each MLS deviation; and 14 other words, one of them refused.
+/// ready glide word and one with no data; of source 2 a ready word of each MLS deviation; and 15 other words, two of them refused.
 #[test]
 fn summary_of_the_example() {
     let path = PathBuf::from(env!("CARGO_MANIFEST_DIR")).join("../../examples/flight.sheet");
     let flight = fs::read(path).unwrap();
     let all = ffi::Summary {
-        refused: 1,
-        words: 21,
+        refused: 2,
+        words: 22,
         ..ffi::Summary::default()
     };
     let course = ffi::Summary {
@@ -582,7 +583,7 @@ fn summary_of_the_example() {
     let text = "173 source 1: ready 2 test 0 nodata 0 failure 1\n\
                 least 126 0.012305 greatest 128 0.012500\n\
                 sum 254 mean 254/2\n\
-                words 21 refused 1 other 17\n";
+                words 22 refused 2 other 17\n";
     let summary = lampcygnet::sheet::summarize(&flight, 0o173, 1).unwrap();
     assert_eq!(summary.to_string(), text);
 }

@@ -8,7 +8,8 @@ use Rattle.bits.specs.Parity.{odd}
 use Rattle.bits.specs.Complement.{signed}
 use Rattle.statuses.specs.Statuses.{binaryStatus, decimalStatus, decimalListed}
 use Rattle.codes.specs.Codes.{markerOf, markerListed, categoryOf}
-use Rattle.frequencies.specs.Frequencies.{tensListed, frequencyIn, legalFrequency}
+use Rattle.frequencies.specs.Frequencies.{tensListed, frequencyIn}
+use Rattle.channels.specs.Channels.{legalFrequency}
 use Rattle.frequencies.specs.declared.Band.{Band}
 use Rattle.records.specs.declared.Body.{Body}
 use Rattle.records.specs.declared.Kind.{Kind}
@@ -34,12 +35,19 @@ valueOnly b = record { digits = true; codes = true; value = b; angle = true }
 abbrev angleOnly : Bool → Rules
 angleOnly b = record { digits = true; codes = true; value = true; angle = b }
 
--- a decimal word: digits up to 9, a status and a tens digit that have a code, and a frequency of the band
+-- the status of a binary and of a decimal word
+abbrev binaryIn : ℕ → Status
+binaryIn w = binaryStatus (bits 30 31 w)
+
+abbrev decimalIn : ℕ → Status
+decimalIn w = decimalStatus (bits 30 31 w)
+
+-- a decimal word: digits up to 9, a status and a tens digit that have a code, and a frequency that is legal under the status
 abbrev pub decimal : Band → ℕ → Rules
 decimal b w = record {
   digits = leb (bits 15 18 w) 9 && (leb (bits 19 22 w) 9 && leb (bits 23 26 w) 9);
   codes = decimalListed (bits 30 31 w) && tensListed b (bits 27 29 w);
-  value = legalFrequency b (frequencyIn b w);
+  value = legalFrequency b (decimalIn w) (frequencyIn b w);
   angle = true;
 }
 
@@ -64,13 +72,6 @@ rules Kind.Part4 w = codesOnly (eqb (bits 30 31 w) 3)
 -- bit k is one
 abbrev flag : ℕ → ℕ → Bool
 flag k w = eqb (bits k k w) 1
-
--- the status of a binary and of a decimal word
-abbrev binaryIn : ℕ → Status
-binaryIn w = binaryStatus (bits 30 31 w)
-
-abbrev decimalIn : ℕ → Status
-decimalIn w = decimalStatus (bits 30 31 w)
 
 -- what a word of each kind holds
 abbrev pub bodyOf : Kind → ℕ → Body

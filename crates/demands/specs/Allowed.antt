@@ -1,15 +1,16 @@
--- The words that document 01 allows: its layouts as a conjunction, with no order of tests.
+-- The words that document 01 allows, with request 5's rule of frequencies: the layouts as a conjunction, with no order of tests.
 -- Assumes nothing.
 use mathlib.Core.Path.{_≡_}
 use Prim.Native.Nat.{ℕ, _+_, _*_, _%_, _≤_}
 use lib.Count.{ones}
+use Rattle.channels.specs.Raster.{IlsChannel, VorChannel, MlsChannel, Under}
 use Rattle.records.specs.declared.Kind.{Kind}
 use Rattle.codes.specs.declared.Marker.{Marker}
 use Rattle.statuses.specs.declared.Status.{Status}
 use Rattle.labels.specs.Label.{labelOf}
 use Rattle.labels.specs.Assignment.{Assignment}
 use Rattle.demands.specs.Table.{ZeroBits}
-use Rattle.demands.specs.Holds.{bit, number, DecimalStatus, MarkerIs, SentAs, MlsIs}
+use Rattle.demands.specs.Holds.{bit, number, DecimalStatus, MarkerIs, VhfIs, SentAs, MlsIs}
 
 -- What a layout asks of a word's fields: decimal digits (refusal 5), codes (4), the value (6) and the angle's parity (7).
 pub record Asks : Type 1 where
@@ -28,25 +29,34 @@ codesAre t = record { digits = Unit; codes = t; value = Unit; angle = Unit }
 abbrev pub DecimalDigits : ℕ → Type 0
 DecimalDigits w = (number 15 18 w ≤ 9) × (number 19 22 w ≤ 9) × (number 23 26 w ≤ 9)
 
--- VOR and ILS frequencies: bits 30 and 31 are the code of some status
-abbrev vhf : ℕ → Asks
-vhf w = record { digits = DecimalDigits w; codes = (s : Status) × DecimalStatus s w; value = Unit; angle = Unit }
+-- the frequency that w has by its digits is a channel
+abbrev pub OnChannel : (ℕ → ℕ → Type 0) → (ℕ → Type 0) → ℕ → Type 0
+OnChannel Has Channel w = (f : ℕ) × Has f w × Channel f
 
--- MLS frequencies: bits 27 to 29 are the code of some tens digit too, and the frequency is 5031.0 + 0.3 k MHz, k from 0 to 199
+-- VOR and ILS frequencies: bits 30 and 31 are the code of some status; under ready and test the frequency is a channel, under nodata any digits do
+abbrev vhf : (ℕ → Type 0) → ℕ → Asks
+vhf Channel w = record {
+  digits = DecimalDigits w;
+  codes = (s : Status) × DecimalStatus s w;
+  value = (s : Status) → DecimalStatus s w → Under s (OnChannel VhfIs Channel w) Unit;
+  angle = Unit;
+}
+
+-- MLS frequencies: bits 27 to 29 are the code of some tens digit too, and under every status the frequency is a channel
 abbrev mls : ℕ → Asks
 mls w = record {
   digits = DecimalDigits w;
   codes = ((s : Status) × DecimalStatus s w) × ((tens : ℕ) × SentAs tens (number 27 29 w));
-  value = (k : ℕ) × (k ≤ 199) × MlsIs (503100 + 30 * k) w;
+  value = OnChannel MlsIs MlsChannel w;
   angle = Unit;
 }
 
 abbrev pub asks : Kind → ℕ → Asks
 asks Kind.VorAzimuth w = codesAre ((m : Marker) × MarkerIs m w)
-asks Kind.VorFrequency w = vhf w
+asks Kind.VorFrequency w = vhf VorChannel w
 asks Kind.IlsCourse w = nothing
 asks Kind.IlsGlide w = nothing
-asks Kind.IlsFrequency w = vhf w
+asks Kind.IlsFrequency w = vhf IlsChannel w
 asks Kind.MlsFrequency w = mls w
 asks Kind.MlsAzimuthDeviation w = nothing
 asks Kind.MlsGlideDeviation w = nothing

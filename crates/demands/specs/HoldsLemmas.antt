@@ -129,7 +129,7 @@ mls-sum h s u t = omega arith
 below-tens : (w : ℕ) → belowTens w ≡ 100 * bits 23 26 w + 10 * bits 19 22 w + bits 15 18 w
 below-tens w = λ i. 100 * sum-digits 22 4 w i + 10 * sum-digits 18 4 w i + sum-digits 14 4 w i
 
-vhf-is : (w : ℕ) → 10000 + 1000 * number 27 29 w + belowTens w ≡ frequencyIn Band.Vor w
+pub vhf-is : (w : ℕ) → 10000 + 1000 * number 27 29 w + belowTens w ≡ frequencyIn Band.Vor w
 vhf-is w =
     ap₂ (λ (t l : ℕ). 10000 + 1000 * t + l) (sum-digits 26 3 w) (below-tens w)
     ∙ vhf-sum (bits 15 18 w) (bits 19 22 w) (bits 23 26 w) (bits 27 29 w)
@@ -174,7 +174,7 @@ mls-holds w tens h = (tens, h, sym (mls-is w tens (sent-tens tens (number 27 29 
 binary-read : (s : Status) (w : ℕ) → BinaryStatus s w → s ≡ binaryStatus (bits 30 31 w)
 binary-read s w h = sym (binary-status s) ∙ ap binaryStatus (binary-is s w .0 h)
 
-decimal-read : (s : Status) (w : ℕ) → DecimalStatus s w → s ≡ decimalStatus (bits 30 31 w)
+pub decimal-read : (s : Status) (w : ℕ) → DecimalStatus s w → s ≡ decimalStatus (bits 30 31 w)
 decimal-read s w h = sym (decimal-status s) ∙ ap decimalStatus (decimal-only s w h)
 
 flag-read : (k : ℕ) (b : Bool) (w : ℕ) → Flag k b w → b ≡ eqb (bit k w) 1
@@ -191,7 +191,7 @@ category-read c w h = sym (category-of c) ∙ ap categoryOf (category-is c w .0 
 binary-holds : (w : ℕ) → BinaryStatus (binaryStatus (bits 30 31 w)) w
 binary-holds w = binary-is (binaryStatus (bits 30 31 w)) w .1 (binary-code (bits 30 31 w) (field-lt 29 2 w))
 
-decimal-holds : (w : ℕ) → (s : Status) × DecimalStatus s w → DecimalStatus (decimalStatus (bits 30 31 w)) w
+pub decimal-holds : (w : ℕ) → (s : Status) × DecimalStatus s w → DecimalStatus (decimalStatus (bits 30 31 w)) w
 decimal-holds w h = subst (λ (s : Status). DecimalStatus s w) (decimal-read (h .0) w (h .1)) (h .1)
 
 marker-holds : (w : ℕ) → (m : Marker) × MarkerIs m w → MarkerIs (markerOf (bits 11 13 w)) w

@@ -57,7 +57,7 @@ module _ (a : Assignment) (w : ℕ) where
         let t = tests.tested k w in
         field-follows (λ j. asks j w .digits) _ (rules k w .digits) _ Refusal.Digit (t .digits)
         (λ d. field-follows (λ j. asks j w .codes) _ (rules k w .codes) _ Refusal.Code (t .codes)
-        (λ c. field-follows (λ j. asks j w .value) _ (rules k w .value) _ Refusal.Value (t .value d)
+        (λ c. field-follows (λ j. asks j w .value) _ (rules k w .value) _ Refusal.Value (t .value d c)
         (λ v. field-follows (λ j. asks j w .angle) _ (rules k w .angle) _ Refusal.AngleParity (t .angle)
         (λ n. no-rules decoded (Decoded.Accepted (recordOf k w)) (recordOf k w, refl)))))
 

@@ -5,6 +5,7 @@ use mathlib.Core.Logic.{_≢_}
 use Prim.Native.Nat.{ℕ, _+_, _*_, _≤_}
 use lib.IntN.{ℤ, pos, negsuc}
 use lib.Signed.{_≤ℤ_}
+use Rattle.channels.specs.Raster.{IlsChannel, VorChannel, MlsChannel, Under}
 use Rattle.records.specs.declared.Body.{Body}
 use Rattle.records.specs.declared.Record.{Record}
 use Rattle.statuses.specs.declared.Status.{Status}
@@ -34,21 +35,18 @@ Count13 z = (negsuc 4095 ≤ℤ z) × (z ≤ℤ pos 4095)
 abbrev pub Count16 : ℤ → Type 0
 Count16 z = (negsuc 32767 ≤ℤ z) × (z ≤ℤ pos 32767)
 
--- 100.00 to 179.99 MHz in tens of kHz
+-- what the digits of a VOR or ILS word can say: 100.00 to 179.99 MHz in tens of kHz
 abbrev pub Vhf : ℕ → Type 0
 Vhf f = (10000 ≤ f) × (f ≤ 17999)
 
--- 5031.0 + 0.3 k MHz in tens of kHz
-abbrev pub Channel : ℕ → Type 0
-Channel f = (k : ℕ) × (k ≤ 199) × (f ≡ 503100 + 30 * k)
-
+-- VOR and ILS frequencies are channels under ready and test, and under nodata whatever the digits can say; MLS frequencies are channels always
 abbrev pub ValuesOf : Body → Type 0
 ValuesOf (Body.VorAzimuth status marker count) = Count13 (count .0)
-ValuesOf (Body.VorFrequency status frequency) = Vhf frequency
+ValuesOf (Body.VorFrequency status frequency) = Under status (VorChannel frequency) (Vhf frequency)
 ValuesOf (Body.IlsCourse status inhibit count) = Count13 (count .0)
 ValuesOf (Body.IlsGlide status inhibit count) = Count13 (count .0)
-ValuesOf (Body.IlsFrequency status category frequency) = Vhf frequency
-ValuesOf (Body.MlsFrequency status frequency) = Channel frequency
+ValuesOf (Body.IlsFrequency status category frequency) = Under status (IlsChannel frequency) (Vhf frequency)
+ValuesOf (Body.MlsFrequency status frequency) = MlsChannel frequency
 ValuesOf (Body.MlsAzimuthDeviation status inhibit clearance count) = Count16 (count .0)
 ValuesOf (Body.MlsGlideDeviation status inhibit clearance count) = Count16 (count .0)
 ValuesOf (Body.SelectedAzimuth status manual degrees) = degrees ≤ 359

@@ -1,5 +1,5 @@
--- Document 01's starred lines, words and figures, with request 3's in place of the MLS figures that it withdraws, each with its record, its count
--- or its refusal: one table, proved by one computed equation.
+-- Document 01's starred lines, words and figures, with request 3's in place of the MLS figures that it withdraws and with frequencies on and off
+-- the raster of request 5, each with its record, its count or its refusal: one table, proved by one computed equation.
 -- Assumes nothing.
 use mathlib.Core.Path.{_≡_, refl}
 use mathlib.Core.Bool.{true, false}
@@ -10,6 +10,7 @@ use lib.IntN.{ℤ, pos, negℤ}
 use Rattle.rounding.specs.Rounding.{roundEven}
 use Rattle.refusals.specs.Numbers.{numberOf}
 use Rattle.records.specs.declared.Body.{Body}
+use Rattle.codes.specs.declared.Category.{Category}
 use Rattle.codes.specs.declared.Marker.{Marker}
 use Rattle.records.specs.declared.Record.{Record}
 use Rattle.statuses.specs.declared.Status.{Status}
@@ -72,6 +73,16 @@ starred =
     ∷ (word 0xE1400036 gives refused 7)
     -- the first word with bit 1 lost
     ∷ (word 0xE8000048 gives refused 1)
+    -- request 5: VOR 178.33 under ready, test and nodata, and under bits 30, 31 = 11, where 4 comes first
+    ∷ (word 0x1E0CC038 gives refused 6)
+    ∷ (word 0xDE0CC038 gives refused 6)
+    ∷ (word 0xBE0CC038 gives of (Body.VorFrequency Status.NoData 17833))
+    ∷ (word 0x7E0CC038 gives refused 4)
+    -- 108.10 is of ILS and not of VOR, 112.00 of VOR; ILS 108.20 has an even digit of tenths
+    ∷ (word 0x02040038 gives refused 6)
+    ∷ (word 0x820400D8 gives of (Body.IlsFrequency Status.Ready Category.NotStated 10810))
+    ∷ (word 0x04800038 gives of (Body.VorFrequency Status.Ready 11200))
+    ∷ (word 0x820800D8 gives refused 6)
     -- request 3, in place of the MLS lines that it withdraws: 2399963378 is coded, 2399963379 refused; -2400036621 is coded, -2400036622 refused;
     -- and 36600 and 109800, the ties of the step in print, now lie nearer to 0 and to 1
     ∷ (figure 0o151 (pos 36600) gives count (pos 0))

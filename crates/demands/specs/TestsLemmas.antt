@@ -1,6 +1,6 @@
 -- Each test that decoding makes says just what the layouts ask.
 -- Assumes nothing.
-use mathlib.Core.Path.{_≡_, refl, sym, ap, ap₂, subst, _∙_}
+use mathlib.Core.Path.{_≡_, refl, sym, ap, ap₂, subst, subst⁻¹, _∙_}
 use mathlib.Core.Bool.{Bool, true, not, _&&_, and-true}
 use mathlib.Core.Logic.{_↔_, _≢_}
 use Prim.Native.Nat.{ℕ, zero, suc, _+_, _-_, _*_, _/_, _%_, _^_, _<_, _≤_}
@@ -12,18 +12,23 @@ use lib.Dec.{eqb, leb, lit<, lit≤}
 use Rattle.bits.specs.Fields.{bits, digits}
 use Rattle.bits.specs.Laws.{both-true}
 use Rattle.bits.specs.Parity.{odd, ones-in}
-use Rattle.statuses.specs.Statuses.{decimalCode, decimalListed}
+use Rattle.statuses.specs.Statuses.{decimalCode, decimalStatus, decimalListed}
 use Rattle.codes.specs.Codes.{markerOf, markerListed, marker-code}
-use Rattle.frequencies.specs.Frequencies.{mlsTens, legalFrequency, mls-range, frequencyIn}
+use Rattle.frequencies.specs.Frequencies.{mlsTens, vhf-range, frequencyIn}
+use Rattle.channels.specs.Raster.{IlsChannel, VorChannel, MlsChannel, Under}
+use Rattle.channels.specs.Channels.{isMls}
+use Rattle.channels.specs.RasterLaws.{vor-legal, ils-legal, mls-test}
 use Rattle.frequencies.specs.declared.Band.{Band}
 use Rattle.records.specs.declared.Kind.{Kind}
 use Rattle.codes.specs.declared.Marker.{Marker}
 use Rattle.statuses.specs.declared.Status.{Status}
 use Rattle.decode.specs.Rules.{rules}
+use Rattle.roundtrip.specs.Digits.{digits-say}
 use Rattle.roundtrip.specs.Forth.{marker-listed}
-use Rattle.demands.specs.Holds.{bit, sum, number, DecimalStatus, MarkerIs, SentAs, MlsIs}
-use Rattle.demands.specs.HoldsLemmas.{sum-digits, field-lt, status-bits, marker-is, decimal-only, tens-sent, never-two, mls-only, mls-holds}
-use Rattle.demands.specs.Allowed.{DecimalDigits, asks}
+use Rattle.demands.specs.Holds.{bit, sum, number, DecimalStatus, MarkerIs, VhfIs, SentAs, MlsIs}
+use Rattle.demands.specs.HoldsLemmas.{sum-digits, field-lt, status-bits, marker-is, decimal-only, decimal-read, decimal-holds, vhf-is, tens-sent, never-two, mls-only, mls-holds}
+use Rattle.demands.specs.Legal.{Vhf}
+use Rattle.demands.specs.Allowed.{DecimalDigits, OnChannel, asks}
 
 -- a test that always passes
 pub always : (true ≡ true) ↔ Unit {0}
@@ -103,31 +108,30 @@ part-test p q w hp hq =
 digits-in : (w : ℕ) → DecimalDigits w → (bits 15 18 w ≤ 9) × (bits 19 22 w ≤ 9) × (bits 23 26 w ≤ 9)
 digits-in w d = (leb-true _ 9 (at-most-9 14 w .1 (d .0)), leb-true _ 9 (at-most-9 18 w .1 (d .1)), leb-true _ 9 (at-most-9 22 w .1 (d .2)))
 
--- with decimal digits a VOR or ILS frequency is legal
-vhf-bound : (h s u t : ℕ) → h ≤ 9 → s ≤ 9 → u ≤ 9 → t < 8 → ((t * 10 + u) * 10 + s) * 10 + h ≤ 7999
-vhf-bound h s u t a b c d = omega arith
+-- a VOR or ILS word with decimal digits: the test of its frequency, under its status, says what is asked under each status that it has
+module _ (w : ℕ) (d : DecimalDigits w) (C : ℕ → Type 0) where
+  abbrev f : ℕ
+  f = frequencyIn Band.Vor w
 
-vhf-value : (w : ℕ) → DecimalDigits w → (legalFrequency Band.Vor (frequencyIn Band.Vor w) ≡ true) ↔ Unit {0}
-vhf-value w d =
-    let n = digits-in w d in
-    let b = vhf-bound (bits 15 18 w) (bits 19 22 w) (bits 23 26 w) (bits 27 29 w) (n .0) (n .1) (n .2) (field-lt 26 3 w) in (
-      λ e. tt,
-      λ u. ap₂ _&&_ (le-leb 10000 (frequencyIn Band.Vor w) (omega arith)) (le-leb (frequencyIn Band.Vor w) 17999 (omega arith)),
-    )
+  said : Vhf f
+  said = let n = digits-in w d in vhf-range f (digits-say Band.Vor (bits 15 18 w) (bits 19 22 w) (bits 23 26 w) (bits 27 29 w) (n .0) (n .1) (n .2) (field-lt 26 3 w) refl)
 
--- the two hundred channels
-pub mls-value : (f : ℕ) → (legalFrequency Band.Mls f ≡ true) ↔ ((k : ℕ) × (k ≤ 199) × (f ≡ 503100 + 30 * k))
-mls-value f = (
-  λ e. let r = mls-range f e in ((f - 503100) / 30, channel f (r .0) (r .1) (r .2) .0, channel f (r .0) (r .1) (r .2) .1),
-  λ h.
-      let k = h .0 in
-      let l : k ≤ 199 = h .1 in
-      let q : f ≡ 503100 + 30 * k = h .2 in
-      ap₂ _&&_ (le-leb 503100 f (omega arith)) (ap₂ _&&_ (le-leb f 509070 (omega arith)) (eq-eqb (f % 30) 0 (omega arith))),
-)
-  where
-    channel : (f : ℕ) → 503100 ≤ f → f ≤ 509070 → f % 30 ≡ 0 → ((f - 503100) / 30 ≤ 199) × (f ≡ 503100 + 30 * ((f - 503100) / 30))
-    channel f a b c = (omega arith, omega arith)
+  on-channel : C f ↔ OnChannel VhfIs C w
+  on-channel = (λ c. (f, sym (vhf-is w), c), λ h. subst C (h .1 ∙ vhf-is w) (h .2))
+
+  under : (s : Status) → Under s (C f) (Vhf f) ↔ Under s (OnChannel VhfIs C w) Unit
+  under Status.Failure = (λ r. tt, λ u. said)
+  under Status.NoData = (λ r. tt, λ u. said)
+  under Status.Test = on-channel
+  under Status.Ready = on-channel
+
+  vhf-value : (test : Status → Bool) → ((s : Status) → (test s ≡ true) ↔ Under s (C f) (Vhf f)) → (s : Status) × DecimalStatus s w
+      → (test (decimalStatus (bits 30 31 w)) ≡ true) ↔ ((s : Status) → DecimalStatus s w → Under s (OnChannel VhfIs C w) Unit)
+  vhf-value test right c =
+      let its = decimalStatus (bits 30 31 w) in (
+        λ e s h. subst⁻¹ (λ (t : Status). Under t (OnChannel VhfIs C w) Unit) (decimal-read s w h) (under its .0 (right its .0 e)),
+        λ g. right its .1 (under its .1 (g its (decimal-holds w c))),
+      )
 
 -- the tens code of a channel is never 2
 channel-tens : (h s u t k : ℕ) → h ≤ 9 → s ≤ 9 → u ≤ 9 → 500000 + (((t * 10 + u) * 10 + s) * 10 + h) ≡ 503100 + 30 * k → 3 ≤ t
@@ -136,44 +140,43 @@ channel-tens h s u t k a b c e = omega arith
 not-two : (c : ℕ) → 3 ≤ mlsTens c → c ≢ 2
 not-two c h e = let z : 3 ≤ 2 = subst (λ (x : ℕ). 3 ≤ mlsTens x) e h in omega arith
 
-channel-test : (w : ℕ) → DecimalDigits w → (legalFrequency Band.Mls (frequencyIn Band.Mls w) ≡ true) ↔ ((k : ℕ) × (k ≤ 199) × MlsIs (503100 + 30 * k) w)
+channel-test : (w : ℕ) → DecimalDigits w → (isMls (frequencyIn Band.Mls w) ≡ true) ↔ OnChannel MlsIs MlsChannel w
 channel-test w d =
     let n = digits-in w d in
-    let t = mls-value (frequencyIn Band.Mls w) in (
+    let t = mls-test (frequencyIn Band.Mls w) in (
       λ e.
           let c = t .0 e in
-          let k : ℕ = c .0 in
-          let l = channel-tens (bits 15 18 w) (bits 19 22 w) (bits 23 26 w) (mlsTens (bits 27 29 w)) k (n .0) (n .1) (n .2) (c .2) in
+          let l = channel-tens (bits 15 18 w) (bits 19 22 w) (bits 23 26 w) (mlsTens (bits 27 29 w)) (c .0) (n .0) (n .1) (n .2) (c .2) in
           let s = tens-test w .0 (unequal-test (bits 27 29 w) 2 .1 (not-two (bits 27 29 w) l)) in
-          (k, c .1, subst (λ (f : ℕ). MlsIs f w) (c .2) (mls-holds w (s .0) (s .1))),
-      λ h. t .1 (h .0, h .1, sym (mls-only (503100 + 30 * h .0) w (h .2))),
+          (frequencyIn Band.Mls w, mls-holds w (s .0) (s .1), c),
+      λ h. t .1 (subst MlsChannel (mls-only (h .0) w (h .1)) (h .2)),
     )
 
 -- the four tests of a kind
 pub record Tested (k : Kind) (w : ℕ) : Type 0 where
   pub digits : (rules k w .digits ≡ true) ↔ asks k w .digits
   pub codes : (rules k w .codes ≡ true) ↔ asks k w .codes
-  pub value : asks k w .digits → (rules k w .value ≡ true) ↔ asks k w .value
+  pub value : asks k w .digits → asks k w .codes → (rules k w .value ≡ true) ↔ asks k w .value
   pub angle : (rules k w .angle ≡ true) ↔ asks k w .angle
 
 pub tested : (k : Kind) (w : ℕ) → Tested k w
-tested Kind.VorAzimuth w = record { digits = always; codes = marker-test w; value = λ d. always; angle = always }
-tested Kind.VorFrequency w = record { digits = digits-test w; codes = vhf-codes w; value = vhf-value w; angle = always }
-tested Kind.IlsCourse w = record { digits = always; codes = always; value = λ d. always; angle = always }
-tested Kind.IlsGlide w = record { digits = always; codes = always; value = λ d. always; angle = always }
-tested Kind.IlsFrequency w = record { digits = digits-test w; codes = vhf-codes w; value = vhf-value w; angle = always }
-tested Kind.MlsFrequency w = record { digits = digits-test w; codes = both-test (status-test w) (tens-test w); value = channel-test w; angle = always }
-tested Kind.MlsAzimuthDeviation w = record { digits = always; codes = always; value = λ d. always; angle = always }
-tested Kind.MlsGlideDeviation w = record { digits = always; codes = always; value = λ d. always; angle = always }
-tested Kind.SelectedAzimuth w = record { digits = always; codes = always; value = λ d. rw (sum-digits 19 9 w) (at-most-test (bits 20 28 w) 359); angle = always }
+tested Kind.VorAzimuth w = record { digits = always; codes = marker-test w; value = λ d c. always; angle = always }
+tested Kind.VorFrequency w = record { digits = digits-test w; codes = vhf-codes w; value = λ d. vhf-value w d VorChannel _ (λ s. vor-legal s _); angle = always }
+tested Kind.IlsCourse w = record { digits = always; codes = always; value = λ d c. always; angle = always }
+tested Kind.IlsGlide w = record { digits = always; codes = always; value = λ d c. always; angle = always }
+tested Kind.IlsFrequency w = record { digits = digits-test w; codes = vhf-codes w; value = λ d. vhf-value w d IlsChannel _ (λ s. ils-legal s _); angle = always }
+tested Kind.MlsFrequency w = record { digits = digits-test w; codes = both-test (status-test w) (tens-test w); value = λ d c. channel-test w d; angle = always }
+tested Kind.MlsAzimuthDeviation w = record { digits = always; codes = always; value = λ d c. always; angle = always }
+tested Kind.MlsGlideDeviation w = record { digits = always; codes = always; value = λ d c. always; angle = always }
+tested Kind.SelectedAzimuth w = record { digits = always; codes = always; value = λ d c. rw (sum-digits 19 9 w) (at-most-test (bits 20 28 w) 359); angle = always }
 tested Kind.GreatestGlideAngle w = record {
   digits = always;
   codes = always;
-  value = λ d. always;
+  value = λ d c. always;
   angle = rw (sum-digits 19 9 w) (odd-test (bits 20 28 w) (lt-of-lt-of-le (field-lt 19 9 w) (lit≤ tt)));
 }
-tested Kind.SelectedGlideAngle w = record { digits = always; codes = always; value = λ d. always; angle = always }
-tested Kind.Part1 w = record { digits = always; codes = part-test 0 0 w (lit< tt) (lit< tt); value = λ d. always; angle = always }
-tested Kind.Part2 w = record { digits = always; codes = part-test 1 0 w (lit< tt) (lit< tt); value = λ d. always; angle = always }
-tested Kind.Part3 w = record { digits = always; codes = part-test 0 1 w (lit< tt) (lit< tt); value = λ d. always; angle = always }
-tested Kind.Part4 w = record { digits = always; codes = part-test 1 1 w (lit< tt) (lit< tt); value = λ d. always; angle = always }
+tested Kind.SelectedGlideAngle w = record { digits = always; codes = always; value = λ d c. always; angle = always }
+tested Kind.Part1 w = record { digits = always; codes = part-test 0 0 w (lit< tt) (lit< tt); value = λ d c. always; angle = always }
+tested Kind.Part2 w = record { digits = always; codes = part-test 1 0 w (lit< tt) (lit< tt); value = λ d c. always; angle = always }
+tested Kind.Part3 w = record { digits = always; codes = part-test 0 1 w (lit< tt) (lit< tt); value = λ d c. always; angle = always }
+tested Kind.Part4 w = record { digits = always; codes = part-test 1 1 w (lit< tt) (lit< tt); value = λ d c. always; angle = always }

@@ -10,13 +10,14 @@ use lib.Dec.{leb, ltb, le→leb, leb→le}
 use lib.IntN.{ℤ, pos, negsuc}
 use lib.Signed.{mag, _≤ℤ_}
 use Rattle.statuses.specs.Statuses.{decimalCode, decimalListed}
+use Rattle.channels.specs.RasterLaws.{vor-legal, ils-legal, mls-legal}
 use Rattle.records.specs.declared.Body.{Body}
 use Rattle.records.specs.declared.Record.{Record}
 use Rattle.statuses.specs.declared.Status.{Status}
 use Rattle.statuses.specs.declared.Status.the-variants.{Failure, NoData, Test, Ready}
 use Rattle.encode.specs.Encode.{codesListed, valuesLegal}
-use Rattle.demands.specs.Legal.{CodesOf, ValuesOf, Vhf, LegalCodes}
-use Rattle.demands.specs.TestsLemmas.{always, both-test, at-most-test, mls-value}
+use Rattle.demands.specs.Legal.{CodesOf, ValuesOf, LegalCodes}
+use Rattle.demands.specs.TestsLemmas.{always, both-test, at-most-test}
 
 abbrev isFailure : Status → ℕ
 isFailure Failure = 1
@@ -44,9 +45,6 @@ range-test n (negsuc k) = (
   λ h. lt-ltb k (suc n) (omega (arith, leb→le k n (h .0 .le))),
 )
 
-vhf-test : (f : ℕ) → ((leb 10000 f && leb f 17999) ≡ true) ↔ Vhf f
-vhf-test f = both-test (at-most-test 10000 f) (at-most-test f 17999)
-
 pub codes-test : (b : Body) → (codesListed b ≡ true) ↔ CodesOf b
 codes-test (Body.VorAzimuth s m c) = always
 codes-test (Body.VorFrequency s f) = status-listed s
@@ -66,11 +64,11 @@ codes-test (Body.Part4 g c) = always
 
 pub values-test : (b : Body) → (valuesLegal b ≡ true) ↔ ValuesOf b
 values-test (Body.VorAzimuth s m c) = range-test 4095 (c .0)
-values-test (Body.VorFrequency s f) = vhf-test f
+values-test (Body.VorFrequency s f) = vor-legal s f
 values-test (Body.IlsCourse s i c) = range-test 4095 (c .0)
 values-test (Body.IlsGlide s i c) = range-test 4095 (c .0)
-values-test (Body.IlsFrequency s k f) = vhf-test f
-values-test (Body.MlsFrequency s f) = mls-value f
+values-test (Body.IlsFrequency s k f) = ils-legal s f
+values-test (Body.MlsFrequency s f) = mls-legal s f
 values-test (Body.MlsAzimuthDeviation s i l c) = range-test 32767 (c .0)
 values-test (Body.MlsGlideDeviation s i l c) = range-test 32767 (c .0)
 values-test (Body.SelectedAzimuth s m d) = at-most-test d 359

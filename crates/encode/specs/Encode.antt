@@ -12,7 +12,7 @@ use lib.Signed.{mag}
 use Rattle.bits.specs.Layout.{join}
 use Rattle.bits.specs.Parity.{withParity}
 use Rattle.statuses.specs.Statuses.{decimalCode, decimalListed}
-use Rattle.frequencies.specs.Frequencies.{legalFrequency}
+use Rattle.channels.specs.Channels.{legalFrequency}
 use Rattle.records.specs.Kinds.{kindOf}
 use Rattle.records.specs.Layouts.{upperLayout, lowerLayout}
 use Rattle.frequencies.specs.declared.Band.{Band}
@@ -52,11 +52,11 @@ wide z = ltb (mag z) 32768
 -- every other field is legal
 abbrev pub valuesLegal : Body → Bool
 valuesLegal (Body.VorAzimuth status marker count) = narrow (count .0)
-valuesLegal (Body.VorFrequency status frequency) = legalFrequency Band.Vor frequency
+valuesLegal (Body.VorFrequency status frequency) = legalFrequency Band.Vor status frequency
 valuesLegal (Body.IlsCourse status inhibit count) = narrow (count .0)
 valuesLegal (Body.IlsGlide status inhibit count) = narrow (count .0)
-valuesLegal (Body.IlsFrequency status category frequency) = legalFrequency Band.Ils frequency
-valuesLegal (Body.MlsFrequency status frequency) = legalFrequency Band.Mls frequency
+valuesLegal (Body.IlsFrequency status category frequency) = legalFrequency Band.Ils status frequency
+valuesLegal (Body.MlsFrequency status frequency) = legalFrequency Band.Mls status frequency
 valuesLegal (Body.MlsAzimuthDeviation status inhibit clearance count) = wide (count .0)
 valuesLegal (Body.MlsGlideDeviation status inhibit clearance count) = wide (count .0)
 valuesLegal (Body.SelectedAzimuth status manual degrees) = leb degrees 359

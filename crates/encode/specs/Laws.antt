@@ -13,7 +13,8 @@ use Rattle.bits.specs.Complement.{complement-lt}
 use Rattle.bits.specs.Parity.{parity-lt}
 use Rattle.statuses.specs.Statuses.{binary-lt, decimal-lt}
 use Rattle.codes.specs.Codes.{marker-lt, category-lt, flag-lt}
-use Rattle.frequencies.specs.Frequencies.{tens-code-lt}
+use Rattle.frequencies.specs.Frequencies.{tensCode, tens-code-lt}
+use Rattle.channels.specs.Channels.{legalFrequency, legal-expressible}
 use Rattle.records.specs.All.{agree}
 use Rattle.records.specs.Kinds.{kindOf}
 use Rattle.records.specs.Layouts.{upperLayout}
@@ -21,6 +22,7 @@ use Rattle.frequencies.specs.declared.Band.{Band}
 use Rattle.records.specs.declared.Body.{Body}
 use Rattle.records.specs.declared.Kind.{Kind}
 use Rattle.records.specs.declared.Record.{Record}
+use Rattle.statuses.specs.declared.Status.{Status}
 use Rattle.labels.specs.Label.{labelOf}
 use Rattle.labels.specs.LabelLaws.{label-lt}
 use Rattle.encode.specs.Fields.{fieldsOf, statusBits}
@@ -35,13 +37,16 @@ Writes b = Fit (upperLayout (kindOf b)) (fieldsOf b ++ (statusBits b ∷ []))
 digit : (n : ℕ) → n % 10 < 16
 digit n = omega arith
 
+tens-fit : (b : Band) (s : Status) (f : ℕ) → legalFrequency b s f ≡ true → tensCode b (f / 1000 % 10) < 8
+tens-fit b s f e = tens-code-lt b f (legal-expressible b s f e)
+
 pub fields-fit : (b : Body) → valuesLegal b ≡ true → Writes b
 fields-fit (Body.VorAzimuth s m c) e = (marker-lt m, (complement-lt 13 (c .0), (binary-lt s, tt)))
-fields-fit (Body.VorFrequency s f) e = (digit f, (digit (f / 10), (digit (f / 100), (tens-code-lt Band.Vor f e, (decimal-lt s, tt)))))
+fields-fit (Body.VorFrequency s f) e = (digit f, (digit (f / 10), (digit (f / 100), (tens-fit Band.Vor s f e, (decimal-lt s, tt)))))
 fields-fit (Body.IlsCourse s i c) e = (flag-lt i, (complement-lt 13 (c .0), (binary-lt s, tt)))
 fields-fit (Body.IlsGlide s i c) e = (flag-lt i, (complement-lt 13 (c .0), (binary-lt s, tt)))
-fields-fit (Body.IlsFrequency s k f) e = (category-lt k, (digit f, (digit (f / 10), (digit (f / 100), (tens-code-lt Band.Ils f e, (decimal-lt s, tt))))))
-fields-fit (Body.MlsFrequency s f) e = (digit f, (digit (f / 10), (digit (f / 100), (tens-code-lt Band.Mls f e, (decimal-lt s, tt)))))
+fields-fit (Body.IlsFrequency s k f) e = (category-lt k, (digit f, (digit (f / 10), (digit (f / 100), (tens-fit Band.Ils s f e, (decimal-lt s, tt))))))
+fields-fit (Body.MlsFrequency s f) e = (digit f, (digit (f / 10), (digit (f / 100), (tens-fit Band.Mls s f e, (decimal-lt s, tt)))))
 fields-fit (Body.MlsAzimuthDeviation s i l c) e = (flag-lt i, (flag-lt l, (complement-lt 16 (c .0), (binary-lt s, tt))))
 fields-fit (Body.MlsGlideDeviation s i l c) e = (flag-lt i, (flag-lt l, (complement-lt 16 (c .0), (binary-lt s, tt))))
 fields-fit (Body.SelectedAzimuth s m d) e = (flag-lt m, (omega (arith, leb-true d 359 e), (binary-lt s, tt)))

@@ -50,18 +50,21 @@ fn values_legal(body: Body) -> bool
 {
     match body {
         Body::VorAzimuth { count, .. } => is_narrow(count.0),
-        Body::VorFrequency { frequency, .. } => frequencies::is_legal_frequency(
+        Body::VorFrequency { status, frequency } => channels::is_legal_frequency(
             Band::Vor,
+            status,
             frequency,
         ),
         Body::IlsCourse { count, .. } => is_narrow(count.0),
         Body::IlsGlide { count, .. } => is_narrow(count.0),
-        Body::IlsFrequency { frequency, .. } => frequencies::is_legal_frequency(
-            Band::Ils,
+        Body::IlsFrequency {
+            status,
             frequency,
-        ),
-        Body::MlsFrequency { frequency, .. } => frequencies::is_legal_frequency(
+            ..
+        } => channels::is_legal_frequency(Band::Ils, status, frequency),
+        Body::MlsFrequency { status, frequency } => channels::is_legal_frequency(
             Band::Mls,
+            status,
             frequency,
         ),
         Body::MlsAzimuthDeviation { count, .. } => is_wide(count.0),

@@ -4,7 +4,7 @@ use mathlib.Core.Path.{_≡_}
 use mathlib.Core.Bool.{Bool, true, not, _&&_}
 use Prim.Native.Nat.{ℕ, zero, suc, _+_, _-_, _*_, _/_, _%_, _≤_, _<_}
 use native.Mathlib.Omega.{arith}
-use borrow.Author.Tests.{leb-true, eqb-true}
+use borrow.Author.Tests.{leb-true}
 use lib.Dec.{eqb, leb}
 use Rattle.bits.specs.Fields.{bits}
 use Rattle.bits.specs.Laws.{both-true}
@@ -49,11 +49,12 @@ frequencyOf b hundredths tenths units tens = offset b + (((tensOf b tens * 10 + 
 abbrev pub frequencyIn : Band → ℕ → ℕ
 frequencyIn b w = frequencyOf b (bits 15 18 w) (bits 19 22 w) (bits 23 26 w) (bits 27 29 w)
 
--- VOR and ILS: any digits from 100.00 to 179.99 MHz; MLS: 5031.0 + 0.3 k MHz, k from 0 to 199
-abbrev pub legalFrequency : Band → ℕ → Bool
-legalFrequency Vor f = leb 10000 f && leb f 17999
-legalFrequency Ils f = leb 10000 f && leb f 17999
-legalFrequency Mls f = leb 503100 f && (leb f 509070 && eqb (f % 30) 0)
+-- What the four digits of a word can say, legal or not: VOR and ILS 100.00 to 179.99 MHz, MLS 5030.00 to 5099.99 MHz. Which of them are legal is
+-- told in `channels`.
+abbrev pub expressible : Band → ℕ → Bool
+expressible Vor f = leb 10000 f && leb f 17999
+expressible Ils f = leb 10000 f && leb f 17999
+expressible Mls f = leb 503000 f && leb f 509999
 
 -- a tens digit is at most 8 above its code
 pub tens-le : (b : Band) (c : ℕ) → tensOf b c ≤ c + 8
@@ -74,23 +75,23 @@ tens-code-le Vor d = omega arith
 tens-code-le Ils d = omega arith
 tens-code-le Mls d = omega arith
 
--- what the test of a frequency says
-pub vhf-range : (f : ℕ) → legalFrequency Vor f ≡ true → (10000 ≤ f) × (f ≤ 17999)
-vhf-range f e =
-    let b = both-true (leb 10000 f) (leb f 17999) e in
-    (leb-true 10000 f (b .0), leb-true f 17999 (b .1))
+-- what the test says
+within : (l h f : ℕ) → (leb l f && leb f h) ≡ true → (l ≤ f) × (f ≤ h)
+within l h f e =
+    let b = both-true (leb l f) (leb f h) e in
+    (leb-true l f (b .0), leb-true f h (b .1))
 
-pub mls-range : (f : ℕ) → legalFrequency Mls f ≡ true → (503100 ≤ f) × (f ≤ 509070) × (f % 30 ≡ 0)
-mls-range f e =
-    let b = both-true (leb 503100 f) (leb f 509070 && eqb (f % 30) 0) e in
-    let d = both-true (leb f 509070) (eqb (f % 30) 0) (b .1) in
-    (leb-true 503100 f (b .0), leb-true f 509070 (d .0), eqb-true (f % 30) 0 (d .1))
+pub vhf-range : (f : ℕ) → expressible Vor f ≡ true → (10000 ≤ f) × (f ≤ 17999)
+vhf-range = within 10000 17999
+
+pub mls-range : (f : ℕ) → expressible Mls f ≡ true → (503000 ≤ f) × (f ≤ 509999)
+mls-range = within 503000 509999
 
 vhf-tens : (f : ℕ) → (10000 ≤ f) × (f ≤ 17999) → f / 1000 % 10 < 8
 vhf-tens f r = omega arith
 
--- the code of a legal frequency's tens has 3 bits
-pub tens-code-lt : (b : Band) (f : ℕ) → legalFrequency b f ≡ true → tensCode b (f / 1000 % 10) < 8
+-- the code of its tens has 3 bits
+pub tens-code-lt : (b : Band) (f : ℕ) → expressible b f ≡ true → tensCode b (f / 1000 % 10) < 8
 tens-code-lt Vor f e = vhf-tens f (vhf-range f e)
 tens-code-lt Ils f e = vhf-tens f (vhf-range f e)
 tens-code-lt Mls f e = omega arith

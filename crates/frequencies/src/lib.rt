@@ -1,6 +1,6 @@
-// Frequencies in tens of kHz: what the words leave out, the codes of the tens, and which are legal.
+// Frequencies in tens of kHz: what the words leave out, the codes of the tens, and which ones a word's digits can say.
 ghost use mathlib.Core.Path.{_≡_};
-ghost use Rattle.frequencies.specs.Frequencies.{offset, tensOf, tensListed, tensCode, frequencyIn, legalFrequency};
+ghost use Rattle.frequencies.specs.Frequencies.{offset, tensOf, tensListed, tensCode, frequencyIn, expressible};
 
 // The bands of the frequency words.
 pub enum Band {
@@ -67,13 +67,13 @@ pub fn tens_code(band: Band, digit: u32) -> u32
     }
 }
 
-// Whether a frequency, in tens of kHz, is legal in its band.
-pub fn is_legal_frequency(band: Band, frequency: u32) -> bool
-    ensures { λ r. ⌜ r ≡ legalFrequency band frequency ⌝ }
+// Whether the digits of a band's words can say a frequency.
+pub fn is_expressible(band: Band, frequency: u32) -> bool
+    ensures { λ r. ⌜ r ≡ expressible band frequency ⌝ }
 {
     match band {
         Band::Vor => (10000 <= frequency) & (frequency <= 17999),
         Band::Ils => (10000 <= frequency) & (frequency <= 17999),
-        Band::Mls => (503100 <= frequency) & ((frequency <= 509070) & (frequency % 30 == 0)),
+        Band::Mls => (503000 <= frequency) & (frequency <= 509999),
     }
 }

@@ -12,6 +12,13 @@ ghost use Rattle.statuses.specs.Statuses.{decimalStatus};
 ghost use Rattle.decode.specs.Rules.{decimal};
 ghost use Rattle.decode.specs.Decode.{judgement, decodeClear};
 
+// The status of a decimal word, in bits 30 and 31.
+fn decimal_status_in(word: u32) -> Status
+    ensures { λ r. ⌜ r ≡ decimalStatus (bits 30 31 word) ⌝ }
+{
+    statuses::decimal_status(word / 536870912 % 4)
+}
+
 // The rules of a frequency word.
 fn frequency_judgement(band: Band, word: u32) -> Judgement
     ensures { λ r. ⌜ r ≡ judgement (decimal band word) ⌝ }
@@ -26,16 +33,13 @@ fn frequency_judgement(band: Band, word: u32) -> Judgement
         return Judgement::Broken(Refusal::Code);
     }
     judgements::kept_if(
-        frequencies::is_legal_frequency(band, frequencies::frequency_in(band, word)),
+        channels::is_legal_frequency(
+            band,
+            decimal_status_in(word),
+            frequencies::frequency_in(band, word),
+        ),
         Refusal::Value,
     )
-}
-
-// The status of a decimal word, in bits 30 and 31.
-fn decimal_status_in(word: u32) -> Status
-    ensures { λ r. ⌜ r ≡ decimalStatus (bits 30 31 word) ⌝ }
-{
-    statuses::decimal_status(word / 536870912 % 4)
 }
 
 // A frequency word of each band.

@@ -1,15 +1,15 @@
 -- A frequency and its decimal digits give each other back.
 -- Assumes nothing.
 use mathlib.Core.Path.{_≡_, refl, sym, ap, ap₂, _∙_}
-use mathlib.Core.Bool.{Bool, true, false, not}
+use mathlib.Core.Bool.{Bool, true, false, not, _&&_, true≢false}
 use mathlib.Core.List.{[], _∷_}
 use Prim.Native.Nat.{ℕ, zero, suc, _+_, _-_, _*_, _/_, _%_, _<_, _≤_}
 use native.Mathlib.Nat.{div-div-eq-div-mul, div-add-mod'}
 use native.Mathlib.Omega.{arith}
-use borrow.Author.Tests.{ne-eqb, ltb-true, ltb-false}
-use lib.Dec.{ltb}
+use borrow.Author.Tests.{le-leb, ne-eqb, ltb-true, ltb-false}
+use lib.Dec.{leb, ltb}
 use lib.Arith.{digits-div, digits-mod}
-use Rattle.frequencies.specs.Frequencies.{mlsTens, tensOf, tensListed, tensCode, frequencyOf, legalFrequency, vhf-range, mls-range}
+use Rattle.frequencies.specs.Frequencies.{mlsTens, tensOf, tensListed, tensCode, frequencyOf, expressible, vhf-range, mls-range}
 use Rattle.frequencies.specs.declared.Band.{Band}
 use Rattle.frequencies.specs.declared.Band.the-variants.{Vor, Ils, Mls}
 use Rattle.encode.specs.Fields.{decimalDigits}
@@ -64,7 +64,7 @@ as-numeral Vor h s u c = omega arith
 as-numeral Ils h s u c = omega arith
 as-numeral Mls h s u c = omega arith
 
--- the digits of the frequency that legal digits give are those digits
+-- the digits of the frequency that digits give are those digits
 pub digits-back : (b : Band) (h s u c : ℕ) → h ≤ 9 → s ≤ 9 → u ≤ 9 → c < 8 → tensListed b c ≡ true
     → decimalDigits b (frequencyOf b h s u c) ≡ h ∷ s ∷ u ∷ c ∷ []
 digits-back b h s u c hh hs hu hc t =
@@ -72,6 +72,18 @@ digits-back b h s u c hh hs hu hc t =
     let d = four (leading b) (tensOf b c) u s h (k .1) hu hs hh in
     ap (decimalDigits b) (as-numeral b h s u c)
     ∙ ap₂ _∷_ (d .0) (ap₂ _∷_ (d .1) (ap₂ _∷_ (d .2) (ap (λ (x : ℕ). x ∷ []) (ap (tensCode b) (d .3) ∙ k .0))))
+
+-- and that frequency is one that the digits can say
+within : (l h f : ℕ) → l ≤ f → f ≤ h → (leb l f && leb f h) ≡ true
+within l h f a b = ap₂ _&&_ (le-leb l f a) (le-leb f h b)
+
+pub digits-say : (b : Band) (h s u c : ℕ) → h ≤ 9 → s ≤ 9 → u ≤ 9 → c < 8 → tensListed b c ≡ true → expressible b (frequencyOf b h s u c) ≡ true
+digits-say Vor h s u c hh hs hu hc t = within 10000 17999 (frequencyOf Vor h s u c) (omega arith) (omega arith)
+digits-say Ils h s u c hh hs hu hc t = within 10000 17999 (frequencyOf Ils h s u c) (omega arith) (omega arith)
+digits-say Mls h s u zero hh hs hu hc t = within 503000 509999 (frequencyOf Mls h s u zero) (omega arith) (omega arith)
+digits-say Mls h s u (suc zero) hh hs hu hc t = within 503000 509999 (frequencyOf Mls h s u (suc zero)) (omega arith) (omega arith)
+digits-say Mls h s u (suc (suc zero)) hh hs hu hc t = absurd (true≢false (sym t))
+digits-say Mls h s u (suc (suc (suc c))) hh hs hu hc t = within 503000 509999 (frequencyOf Mls h s u (suc (suc (suc c)))) (omega arith) (omega arith)
 
 -- ---- a frequency to digits and back
 
@@ -115,11 +127,11 @@ not-two d l h e = omega arith
 vhf-top : (f : ℕ) → (10000 ≤ f) × (f ≤ 17999) → 10 + f / 1000 % 10 ≡ f / 1000
 vhf-top f r = omega arith
 
-mls-top : (f : ℕ) → 503100 ≤ f → f ≤ 509070 → (500 + f / 1000 % 10 ≡ f / 1000) × (3 ≤ f / 1000 % 10)
+mls-top : (f : ℕ) → 503000 ≤ f → f ≤ 509999 → (500 + f / 1000 % 10 ≡ f / 1000) × (3 ≤ f / 1000 % 10)
 mls-top f l h = (omega arith, omega arith)
 
--- the digits above the tens are the offset's, and the tens digit of a legal frequency comes back from its code
-top : (b : Band) (f : ℕ) → legalFrequency b f ≡ true → leading b * 10 + tensOf b (tensCode b (f / 1000 % 10)) ≡ f / 1000
+-- the digits above the tens are the offset's, and the tens digit of a frequency that the digits can say comes back from its code
+top : (b : Band) (f : ℕ) → expressible b f ≡ true → leading b * 10 + tensOf b (tensCode b (f / 1000 % 10)) ≡ f / 1000
 top Vor f e = vhf-top f (vhf-range f e)
 top Ils f e = vhf-top f (vhf-range f e)
 top Mls f e =
@@ -127,14 +139,14 @@ top Mls f e =
     let t = mls-top f (r .0) (r .1) in
     ap (λ (x : ℕ). 500 + x) (mls-tens (f / 1000 % 10) (t .1) (omega arith)) ∙ t .0
 
-pub frequency-back : (b : Band) (f : ℕ) → legalFrequency b f ≡ true
+pub frequency-back : (b : Band) (f : ℕ) → expressible b f ≡ true
     → frequencyOf b (f % 10) (f / 10 % 10) (f / 100 % 10) (tensCode b (f / 1000 % 10)) ≡ f
 frequency-back b f e =
     as-numeral b (f % 10) (f / 10 % 10) (f / 100 % 10) (tensCode b (f / 1000 % 10))
     ∙ ap (λ (x : ℕ). ((x * 10 + f / 100 % 10) * 10 + f / 10 % 10) * 10 + f % 10) (top b f e) ∙ rebuilt f
 
--- the code of a legal frequency's tens is listed
-pub tens-code-listed : (b : Band) (f : ℕ) → legalFrequency b f ≡ true → tensListed b (tensCode b (f / 1000 % 10)) ≡ true
+-- the code of its tens is listed
+pub tens-code-listed : (b : Band) (f : ℕ) → expressible b f ≡ true → tensListed b (tensCode b (f / 1000 % 10)) ≡ true
 tens-code-listed Vor f e = refl
 tens-code-listed Ils f e = refl
 tens-code-listed Mls f e =

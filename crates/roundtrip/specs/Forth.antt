@@ -17,7 +17,8 @@ use Rattle.bits.specs.Complement.{signed, complement, signed-complement}
 use Rattle.bits.specs.Parity.{odd, parityBit, parity-odd}
 use Rattle.statuses.specs.Statuses.{binaryStatus, binaryCode, binary-status, decimalStatus, decimalCode, decimalListed, decimal-status}
 use Rattle.codes.specs.Codes.{markerOf, markerCode, markerListed, marker-of, categoryOf, category-of, flagBit, flag-of}
-use Rattle.frequencies.specs.Frequencies.{tensCode, legalFrequency, frequencyIn}
+use Rattle.frequencies.specs.Frequencies.{tensCode, frequencyIn}
+use Rattle.channels.specs.Channels.{legalFrequency, legal-expressible}
 use Rattle.records.specs.Kinds.{kindOf}
 use Rattle.records.specs.Layouts.{wordLayout}
 use Rattle.frequencies.specs.declared.Band.{Band}
@@ -56,20 +57,23 @@ digit-kept n = le-leb (n % 10) 9 (omega arith)
 pub at : {l m : List ℕ} (i : ℕ) → l ≡ m → getD l i 0 ≡ getD m i 0
 at i e = ap (λ (l : List ℕ). getD l i 0) e
 
+decimal-status-read : (s : Status) (d : ℕ) → d ≡ decimalCode s → decimalStatus d ≡ s
+decimal-status-read s d e = ap decimalStatus e ∙ decimal-status s
+
 -- a decimal word whose digits are those of a legal frequency
 module _ (b : Band) (s : Status) (f w : ℕ)
     (e₀ : bits 15 18 w ≡ f % 10) (e₁ : bits 19 22 w ≡ f / 10 % 10) (e₂ : bits 23 26 w ≡ f / 100 % 10)
     (e₃ : bits 27 29 w ≡ tensCode b (f / 1000 % 10)) (e₄ : bits 30 31 w ≡ decimalCode s)
-    (c : decimalListed (decimalCode s) ≡ true) (v : legalFrequency b f ≡ true) where
+    (c : decimalListed (decimalCode s) ≡ true) (v : legalFrequency b s f ≡ true) where
   frequency-read : frequencyIn b w ≡ f
-  frequency-read = rw (e₀, e₁, e₂, e₃) (frequency-back b f v)
+  frequency-read = rw (e₀, e₁, e₂, e₃) (frequency-back b f (legal-expressible b s f v))
 
   decimal-read : Kept (decimal b w)
   decimal-read =
       kept
       (rw (e₀, e₁, e₂) (ap₂ _&&_ (digit-kept f) (ap₂ _&&_ (digit-kept (f / 10)) (digit-kept (f / 100)))))
-      (rw (e₃, e₄) (ap₂ _&&_ c (tens-code-listed b f v)))
-      (ap (legalFrequency b) frequency-read ∙ v)
+      (rw (e₃, e₄) (ap₂ _&&_ c (tens-code-listed b f (legal-expressible b s f v))))
+      (ap₂ (legalFrequency b) (decimal-status-read s (bits 30 31 w) e₄) frequency-read ∙ v)
       refl
 
 -- a count of n bits comes back
@@ -81,9 +85,6 @@ status-read s d e = ap binaryStatus e ∙ binary-status s
 
 flag-read : (b : Bool) (d : ℕ) → d ≡ flagBit b → eqb d 1 ≡ b
 flag-read b d e = ap (λ (x : ℕ). eqb x 1) e ∙ flag-of b
-
-decimal-status-read : (s : Status) (d : ℕ) → d ≡ decimalCode s → decimalStatus d ≡ s
-decimal-status-read s d e = ap decimalStatus e ∙ decimal-status s
 
 pub forth : (b : Body) (byte source parity w : ℕ) → codesListed b ≡ true → valuesLegal b ≡ true → Holds byte source b parity w
     → Kept (rules (kindOf b) w) × (bodyOf (kindOf b) w ≡ b)

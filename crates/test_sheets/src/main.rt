@@ -98,7 +98,7 @@ fn check_folder(folder: &[u8; 6], sheets: u64) {
 }
 
 fn main() {
-    check_folder(b"sheets", 81);
+    check_folder(b"sheets", 82);
     check_folder(b"flight", 1);
     check_folder(b"faulty", 2);
 }

@@ -1,5 +1,5 @@
 // Decodes each word of the test vectors and compares its refusal and its count with what its line says: a word in hexadecimal, the number of
-// its refusal (0: accepted) and its count (0 where it has none), between single spaces. In the second file three lines are wrong.
+// its refusal (0: accepted) and its count (0 where it has none), between single spaces. In the last file three lines are wrong.
 use decode::Decoded;
 use measurements::Measurement;
 use test_vectors::Tally;
@@ -110,5 +110,6 @@ fn check_file(name: &[u8]) {
 
 fn main() {
     check_file(b"words.txt");
+    check_file(b"raster.txt");
     check_file(b"words_wrong.txt");
 }

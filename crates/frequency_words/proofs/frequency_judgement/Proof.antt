@@ -1,12 +1,12 @@
 -- Digits, then codes, then the value.
 -- Assumes nothing.
 use borrow.Author.Tests.{not-true, not-false}
-use mathlib.Core.Path.{refl, sym, ap, _∙_}
+use mathlib.Core.Path.{refl, sym, ap, ap₂, _∙_}
 use mathlib.Core.Bool.{Bool, cond, _&&_}
 use borrow.Author.Needs.{needs}
 use Rattle.bits.specs.Fields.{bits}
 use Rattle.statuses.specs.Statuses.{decimalListed}
-use Rattle.frequencies.specs.Frequencies.{legalFrequency}
+use Rattle.channels.specs.Channels.{legalFrequency}
 use Rattle.refusals.specs.declared.Refusal.{Refusal}
 use Rattle.decode.specs.declared.Judgement.{Judgement}
 use Rattle.decode.specs.Rules.{decimal}
@@ -27,6 +27,9 @@ returns-2 c =
     (codes-broken d (not-false _ (c .before .before .if1 .left))
     (ap (λ (b : Bool). decimalListed (bits 30 31 (c .before .before .before .args .word)) && b) (sym (c .before .is-tens .ensures)) ∙ not-true _ (c .if2 .taken)))
 
+decimal-status-in-requires : tie.Need-decimal-status-in-requires
+decimal-status-in-requires c κs = search needs
+
 frequency-in-requires : tie.Need-frequency-in-requires
 frequency-in-requires c κs = search needs
 
@@ -38,14 +41,15 @@ kept-if-requires c κs = search needs
 
 returns-3 : tie.Need-returns-3
 returns-3 c =
-    let w = c .before .before .before .before .before .before .args .word in
-    let d = decimal (c .before .before .before .before .before .before .args .band) w in
+    let start = c .before .before .before .before .before .before .before in
+    let w = start .args .word in
+    let b = start .args .band in
     c .kept-if .ensures
-    ∙ ap (λ (b : Bool). cond b Judgement.Kept (Judgement.Broken Refusal.Value))
-    (c .before .is-legal-frequency .ensures ∙ ap (legalFrequency (c .before .before .before .before .before .before .args .band)) (c .before .before .frequency-in .ensures))
+    ∙ ap (λ (t : Bool). cond t Judgement.Kept (Judgement.Broken Refusal.Value))
+    (c .before .is-legal-frequency .ensures ∙ ap₂ (legalFrequency b) (c .before .before .before .decimal-status-in .ensures) (c .before .before .frequency-in .ensures))
     ∙ sym
-    (codes-kept d (not-false _ (c .before .before .before .before .before .if1 .left))
-    (ap (λ (b : Bool). decimalListed (bits 30 31 w) && b) (sym (c .before .before .before .before .is-tens .ensures)) ∙ not-false _ (c .before .before .before .if2 .left))
+    (codes-kept (decimal b w) (not-false _ (c .before .before .before .before .before .before .if1 .left))
+    (ap (λ (t : Bool). decimalListed (bits 30 31 w) && t) (sym (c .before .before .before .before .before .is-tens .ensures)) ∙ not-false _ (c .before .before .before .before .if2 .left))
     refl)
 
 pub frequency-judgement-spec : {M : Type 1} → statement M
@@ -55,6 +59,7 @@ frequency-judgement-spec =
     returns
     is-tens-requires
     returns-2
+    decimal-status-in-requires
     frequency-in-requires
     is-legal-frequency-requires
     kept-if-requires

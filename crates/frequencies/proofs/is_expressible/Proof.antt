@@ -1,8 +1,8 @@
 -- Each arm by the band that it is for.
 -- Assumes nothing.
 use borrow.Author.Needs.{needs}
-use Rattle.frequencies.proofs.is_legal_frequency.Statement.{statement}
-use Rattle.frequencies.proofs.is_legal_frequency.Tie as tie
+use Rattle.frequencies.proofs.is_expressible.Statement.{statement}
+use Rattle.frequencies.proofs.is_expressible.Tie as tie
 
 enum-told : tie.Need-enum-told
 enum-told c = search needs
@@ -22,6 +22,6 @@ returns-2 c = rw (c .enum-told2 .given .1)
 returns-3 : tie.Need-returns-3
 returns-3 c = rw (c .enum-told3 .given .1)
 
-pub is-legal-frequency-spec : {M : Type 1} → statement M
-is-legal-frequency-spec =
+pub is-expressible-spec : {M : Type 1} → statement M
+is-expressible-spec =
     tie.close (tie.spec enum-told enum-told-2 enum-told-3 returns returns-2 returns-3)

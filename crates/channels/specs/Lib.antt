@@ -1,0 +1,4 @@
+pub mod Raster
+pub mod Counted
+pub mod Channels
+pub mod RasterLaws
