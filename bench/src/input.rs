@@ -34,14 +34,35 @@ pub fn any_words(random: &mut Random, length: usize) -> Vec<u32> {
     (0..length).map(|_| random.draw() as u32).collect()
 }
 
+/// Bits 15 to 29, the digits of a frequency.
+const DIGITS: u32 = 0x1FFF_C000;
+
+/// The digits of every channel of a label: those that a ready word may have.
+fn channel_digits(label: u32) -> Vec<u32> {
+    let digits = (0..1 << 15).map(|number| number << 14);
+    digits.filter(|digits| crate::rust::decode(with_parity(digits | label)).is_ok()).collect()
+}
+
+/// A VOR or ILS word off the raster with the digits of a channel instead, which the word itself chooses: nothing more is drawn.
+fn tuned(word: u32, channels: &[u32]) -> u32 {
+    let choice = (word.wrapping_mul(0x9E37_79B9) >> 16) as usize % channels.len();
+    with_parity(word & !DIGITS | channels[choice])
+}
+
 /// Words that a receiver sends: of all fifteen labels, accepted but for one in fifty.
 pub fn receiver_words(random: &mut Random, length: usize) -> Vec<u32> {
+    let [vor, ils] = [0x38, 0xD8].map(channel_digits);
     let mut words = Vec::with_capacity(length);
     while words.len() < length {
         let label = LABELS[random.below(15) as usize];
         let word = random.draw() as u32 & !0xFF | label;
         // Clears the zero bits that most labels share, so that random data is often a legal word.
         let word = with_parity(if random.below(4) == 0 { word & 0xFFFF_03FF } else { word & 0x6FF8_03FF });
+        let word = match (label, crate::rust::decode(word)) {
+            (0x38, Err(6)) => tuned(word, &vor),
+            (0xD8, Err(6)) => tuned(word, &ils),
+            _ => word,
+        };
         if crate::rust::decode(word).is_ok() {
             words.push(if random.below(50) == 0 { word ^ 1 << random.below(32) } else { word });
         }

@@ -3,7 +3,7 @@
 use bench::{c, input, library, rust};
 use model::compare::{self, Subject};
 use model::generate::{self, Random};
-use model::word::{Body, Record};
+use model::word::{self, Body, Record};
 use model::{figure, sheet, summary, Summary};
 
 /// A word's record out of its plain numbers.
@@ -145,6 +145,36 @@ fn random_words() {
         let mut random = Random::from_environment("words", 12);
         (0..2_000_000).try_for_each(|_| compare::word(subject, generate::any_word(&mut random)))
     });
+}
+
+/// Every four digits of each frequency's label under every status.
+#[test]
+fn every_frequency() {
+    each(compare::frequencies);
+}
+
+/// The words that are timed: a fiftieth refused, and VOR and ILS frequencies under each status, at channels of every MHz.
+#[test]
+fn timed_words() {
+    let words = input::receiver_words(&mut input::Random::new(20), 100_000);
+    each(|subject| words.iter().try_for_each(|&word| compare::word(subject, word)));
+    let records: Vec<Record> = words.iter().filter_map(|&word| model::decode(word).ok()).collect();
+    assert!((98_000..99_000).contains(&records.len()), "{} accepted", records.len());
+    let under = |ils: bool, status: u8| -> Vec<i64> {
+        let frequency = |record: &Record| match record.body {
+            Body::VorFrequency { status: own, frequency } if !ils && own == status => Some(frequency),
+            Body::IlsFrequency { status: own, frequency, .. } if ils && own == status => Some(frequency),
+            _ => None,
+        };
+        records.iter().filter_map(frequency).collect()
+    };
+    for (ils, mhz) in [(false, 108..=117), (true, 108..=111)] {
+        for status in [word::NODATA, word::TEST, word::READY] {
+            let found = under(ils, status);
+            assert!((900..1_300).contains(&found.len()), "{} of ILS: {ils}, status {status}", found.len());
+            assert!(mhz.clone().all(|mhz| found.iter().any(|frequency| frequency / 100 == mhz)));
+        }
+    }
 }
 
 #[test]
