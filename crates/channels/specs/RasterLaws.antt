@@ -7,7 +7,7 @@ use Prim.Native.Nat.{ℕ, _+_, _-_, _*_, _/_, _%_, _≤_, _<_}
 use native.Mathlib.Decide.{ℕ-discrete}
 use native.Mathlib.Omega.{arith}
 use borrow.Author.Tests.{le-leb, eq-eqb, eqb-true}
-use lib.Dec.{eqb, leb}
+use lib.Dec.{leb}
 use Rattle.bits.specs.Laws.{both-true}
 use Rattle.statuses.specs.declared.Status.{Status}
 use Rattle.frequencies.specs.Frequencies.{expressible, vhf-range}

@@ -1,7 +1,7 @@
 -- The words that document 01 allows, with request 5's rule of frequencies: the layouts as a conjunction, with no order of tests.
 -- Assumes nothing.
 use mathlib.Core.Path.{_≡_}
-use Prim.Native.Nat.{ℕ, _+_, _*_, _%_, _≤_}
+use Prim.Native.Nat.{ℕ, _%_, _≤_}
 use lib.Count.{ones}
 use Rattle.channels.specs.Raster.{IlsChannel, VorChannel, MlsChannel, Under}
 use Rattle.records.specs.declared.Kind.{Kind}

@@ -1,8 +1,7 @@
 -- The legal records, written out by field. Codes come first: writing refuses 4 for those, and 6 for every other field.
 -- Assumes nothing.
-use mathlib.Core.Path.{_≡_}
 use mathlib.Core.Logic.{_≢_}
-use Prim.Native.Nat.{ℕ, _+_, _*_, _≤_}
+use Prim.Native.Nat.{ℕ, _≤_}
 use lib.IntN.{ℤ, pos, negsuc}
 use lib.Signed.{_≤ℤ_}
 use Rattle.channels.specs.Raster.{IlsChannel, VorChannel, MlsChannel, Under}
