@@ -16,6 +16,7 @@ use flat_walks::FlatWalked;
 use flat_words::FlatWord;
 ghost use mathlib.Core.Path.{_≡_};
 ghost use Rattle.decode.specs.Decode.{decodeOf};
+ghost use Rattle.pages.specs.Page.{pageOf};
 ghost use Rattle.chart.specs.Words.{chartPoint};
 ghost use Rattle.agreements.specs.Agreement.{agreesOf};
 ghost use Rattle.explanations.specs.Explanations.{explainedOf};
@@ -34,6 +35,7 @@ ghost use Rattle.flat_explanations.specs.Explained.{flatExplained};
 ghost use Rattle.flat_figures.specs.Printing.{printedOf};
 ghost use Rattle.flat_reassembly.specs.Steps.{reassembled};
 ghost use Rattle.flat_listing.specs.Listed.{flatListed};
+ghost use Rattle.flat_pages.specs.Filled.{flatFilled};
 ghost use Rattle.flat_places.specs.Places.{flatChecked, flatWritten};
 ghost use Rattle.flat_points.specs.Points.{flatPoint};
 ghost use Rattle.flat_readings.specs.Readings.{readingIn};
@@ -56,6 +58,20 @@ pub extern "C" fn lampcygnet_encode(fields: FlatRecord) -> FlatWord
     ensures { λ r. ⌜ r ≡ encodeFlat fields ⌝ }
 {
     flat_words::encode_flat(fields)
+}
+
+// Fills two lists with the answers to a page of words: the number of each word's refusal, 0 where it is accepted, and its count, 0 where it has none.
+#[no_mangle]
+pub extern "C" fn lampcygnet_decode_page(
+    words: &[u32],
+    refusals: &mut [u8],
+    counts: &mut [i16],
+) -> u8
+    ensures answer { λ r. ⌜ r ≡ flatFilled (pageOf (now (words .entry)) (now (refusals .entry)) (now (counts .entry)) .answer) ⌝ }
+    ensures numbers { λ _. ⌜ now (refusals .exit) ≡ pageOf (now (words .entry)) (now (refusals .entry)) (now (counts .entry)) .refusals ⌝ }
+    ensures counted { λ _. ⌜ now (counts .exit) ≡ pageOf (now (words .entry)) (now (refusals .entry)) (now (counts .entry)) .counts ⌝ }
+{
+    flat_pages::decode_page_flat(words, refusals, counts)
 }
 
 // The reading of a word, or its refusal.

@@ -5,11 +5,11 @@ use mathlib.Core.Path.{_≡_, refl, sym, ap, subst, _∙_}
 use mathlib.Core.Bool.{Bool, true, false, cond}
 use mathlib.Core.List.{List, [], _∷_, _++_}
 use mathlib.Core.Logic.{_↔_}
-use Prim.Native.Nat.{ℕ, zero, suc, _+_}
+use Prim.Native.Nat.{ℕ, zero, suc, _+_, _<_}
 use native.Mathlib.Omega.{arith}
 use lib.Dec.{ltb}
 use lib.IntN.{ℤ, pos}
-use lib.ListN.{length, drop}
+use lib.ListN.{length, getD, drop}
 use Rattle.refusals.specs.Numbers.{numberOf, refusalOf, refusal-of-number, number-bounds}
 use Rattle.refusals.specs.declared.Numbered.{Numbered}
 use Rattle.refusals.specs.declared.Refusal.{Refusal}
@@ -18,6 +18,9 @@ use Rattle.views.specs.declared.Setting.{Setting}
 use Rattle.labels.specs.Assignment.{document01}
 use Rattle.decode.specs.Decode.{decodeOf}
 use Rattle.decode.specs.declared.Decoded.{Decoded}
+use Rattle.pages.specs.Page.{pageWhen, isShort, pageOf}
+use Rattle.pages.specs.Statements.{Fits}
+use Rattle.pages.specs.declared.Filled.{Filled}
 use Rattle.encode.specs.Encode.{encodeOf}
 use Rattle.encode.specs.declared.Encoded.{Encoded}
 use Rattle.readings.specs.Readings.{readingOf}
@@ -84,10 +87,12 @@ use Rattle.flat_walks.specs.declared.FlatWalk.{FlatWalk}
 use Rattle.flat_contents.specs.Contents.{flatWordIn, flatFigureIn, flatNote}
 use Rattle.flat_contents.specs.declared.FlatFigure.{FlatFigure}
 use Rattle.flat_contents.specs.declared.FlatNote.{FlatNote}
+use Rattle.flat_pages.specs.Filled.{flatFilled}
 use Rattle.flat_listing.specs.Listed.{flatListed}
 use Rattle.flat_listing.specs.declared.FlatListed.{FlatListed}
 use Rattle.flat_summaries.specs.Flat.{flatSummarized}
 use Rattle.flat_summaries.specs.declared.FlatSummary.{FlatSummary}
+use Rattle.capi_laws.specs.Pages.{element-told}
 use Rattle.capi_laws.specs.Summaries.{summaryIn, ZeroWhereNoneReady, summary-told, zeros-told}
 
 -- ---- what is stated
@@ -104,7 +109,7 @@ pub record Tells {N : Type 0} (number : N → ℕ) (beside : Refusal → ℕ →
   pub zeros : (f : Refusal) (offset : ℕ) → said ≡ refuses f offset → told ≡ beside f offset
 
 -- what is refused leaves a buffer as it stood
-abbrev pub Untouched : Said → (before after : List ℕ) → Type 0
+abbrev pub Untouched : {A : Type 0} → Said → (before after : List A) → Type 0
 Untouched accepts before after = Unit {0}
 Untouched (refuses f offset) before after = after ≡ before
 
@@ -113,6 +118,10 @@ Untouched (refuses f offset) before after = after ≡ before
 abbrev pub ofDecoded : Decoded → Said
 ofDecoded (Decoded.Accepted r) = accepts
 ofDecoded (Decoded.Refused f) = refuses f 0
+
+abbrev pub ofFilled : Filled → Said
+ofFilled Filled.Whole = accepts
+ofFilled (Filled.Refused f) = refuses f 0
 
 abbrev pub ofEncoded : Encoded → Said
 ofEncoded (Encoded.Word w) = accepts
@@ -170,6 +179,10 @@ ofSummarized (Summarized.SheetRefused f p) = refuses f p
 abbrev pub RecordTells : Said → FlatRecord → Type 0
 RecordTells = Tells (λ (n : FlatRecord). n .refusal) (λ f p. records.refused (numberOf f))
 
+-- a number alone
+abbrev pub NumberTells : Said → ℕ → Type 0
+NumberTells = Tells (λ (n : ℕ). n) (λ f p. numberOf f)
+
 abbrev pub WordTells : Said → FlatWord → Type 0
 WordTells = Tells (λ (n : FlatWord). n .refusal) (λ f p. record { refusal = numberOf f; word = 0 })
 
@@ -220,6 +233,12 @@ pub record EntryPoints : Type 0 where
   -- lampcygnet_decode, lampcygnet_reading_of
   pub decode : (w : ℕ) → RecordTells (ofDecoded (decodeOf w)) (flatOf (decodeOf w))
   pub reading : (w : ℕ) → ReadingTells (ofDecoded (decodeOf w)) (readingIn w)
+  -- lampcygnet_decode_page: the refusal of the call, beside which both lists are as they were; else each element is the number that lampcygnet_decode gives of its word
+  pub page : (words refusals : List ℕ) (counts : List ℤ) → let x = pageOf words refusals counts in NumberTells (ofFilled (x .answer)) (flatFilled (x .answer))
+  pub page-untouched : (words refusals : List ℕ) (counts : List ℤ) → let x = pageOf words refusals counts in
+      Untouched (ofFilled (x .answer)) refusals (x .refusals) × Untouched (ofFilled (x .answer)) counts (x .counts)
+  pub page-element : (words refusals : List ℕ) (counts : List ℤ) → Fits words refusals counts → (i : ℕ) → i < length words → let x = pageOf words refusals counts in
+      (getD (x .refusals) i 0 ≡ flatOf (decodeOf (getD words i 0)) .refusal) × (getD (x .counts) i (pos 0) ≡ flatOf (decodeOf (getD words i 0)) .count)
   -- lampcygnet_encode: on any numbers, and on those of any record
   pub encode : (f : FlatRecord) → WordTells (ofEncoded (encoded (recordFrom f))) (encodeFlat f)
   pub encode-record : (r : Record) → Bounded (r .body) → WordTells (ofEncoded (encodeOf r)) (encodeFlat (flatOf (Decoded.Accepted r)))
@@ -295,6 +314,10 @@ module _ {N : Type 0} (number : N → ℕ) (beside : Refusal → ℕ → N) (num
 decode-tells : (d : Decoded) → RecordTells (ofDecoded d) (flatOf d)
 decode-tells (Decoded.Accepted r) = when-accepted _ _ (λ f p. refl) (flatOf (Decoded.Accepted r)) (accepted-number r)
 decode-tells (Decoded.Refused f) = when-refused _ _ (λ f p. refl) f 0
+
+page-tells : (x : Filled) → NumberTells (ofFilled x) (flatFilled x)
+page-tells Filled.Whole = when-accepted _ _ (λ f p. refl) 0 refl
+page-tells (Filled.Refused f) = when-refused _ _ (λ f p. refl) f 0
 
 reading-0 : (n : ℕ) (r : Reading) → flatReading n r .refusal ≡ 0
 reading-0 n (Reading.Degrees x) = refl
@@ -398,6 +421,15 @@ group-kept : (x : Scan) (out : List ℕ) (place : ℕ) (run : List ℕ)
 group-kept (Fields fs) out place run = written-kept out place FieldKind.Group run
 group-kept (Refused f p) out place run = refl
 
+page-kept : (words refusals : List ℕ) (counts : List ℤ) → let x = pageOf words refusals counts in
+    Untouched (ofFilled (x .answer)) refusals (x .refusals) × Untouched (ofFilled (x .answer)) counts (x .counts)
+page-kept words refusals counts = by (isShort words refusals counts)
+  where
+    by : (short : Bool) → let x = pageWhen short words refusals counts in
+        Untouched (ofFilled (x .answer)) refusals (x .refusals) × Untouched (ofFilled (x .answer)) counts (x .counts)
+    by true = (refl, refl)
+    by false = (tt, tt)
+
 listed-kept : (text out : List ℕ) → Untouched (ofListed (listedOf text out)) out (bufferOf text out)
 listed-kept text out = by (ltb (length out) (length text))
   where
@@ -410,6 +442,9 @@ pub entry-points : EntryPoints
 entry-points = record {
   decode = λ w. decode-tells (decodeOf w);
   reading = λ w. reading-tells (decodeOf w);
+  page = λ words refusals counts. page-tells (pageOf words refusals counts .answer);
+  page-untouched = page-kept;
+  page-element = element-told;
   encode = λ f. word-tells (encoded (recordFrom f));
   encode-record = λ r h. subst (WordTells (ofEncoded (encodeOf r))) (sym (encode-alike r h)) (word-tells (encodeOf r));
   chart = λ course glide. point-tells (chartPoint course glide);

@@ -17,6 +17,10 @@ use Rattle.records.specs.declared.Record.{Record}
 use Rattle.labels.specs.Label.{labelOf}
 use Rattle.labels.specs.Assignment.{Assignment, document01}
 use Rattle.decode.specs.Decode.{decodeAs, decodeOf}
+use Rattle.pages.specs.Page.{pageOf}
+use Rattle.pages.specs.Statements.{pageRules, filling}
+use Rattle.pages.specs.Theorems as page-theorems
+use Rattle.pages.specs.declared.Filled.{Filled}
 use Rattle.encode.specs.Encode.{encodeAs, recordLabel, encodeOf}
 use Rattle.chart.specs.Chart.{chartOf}
 use Rattle.chart.specs.Points.{charted, chart-order}
@@ -64,6 +68,10 @@ pub record Demand1 : Type 0 where
   -- a word to its record: `decode`, and `decode_as` with the kind that the word's label has under any labels
   pub word : (w : ℕ) → w < 2 ^ 32 → Follows decoded (wordRules document01 w) (decodeOf w)
   pub word-as : (a : Assignment) (w : ℕ) → w < 2 ^ 32 → Follows decoded (wordRules a w) (decodeAs (a .kind (labelOf w)) w)
+  -- a page of words into two lists: `decode_page`
+  pub page : (words refusals : List ℕ) (counts : List ℤ) → Follows filling (pageRules words refusals counts) (pageOf words refusals counts .answer)
+  pub page-untouched : (words refusals : List ℕ) (counts : List ℤ) (f : Refusal) → pageOf words refusals counts .answer ≡ Filled.Refused f
+      → (pageOf words refusals counts .refusals ≡ refusals) × (pageOf words refusals counts .counts ≡ counts)
   -- a record to its word: `encode`, and `encode_as` under any label
   pub «record» : (r : Record) → Follows encoded (recordRules r) (encodeOf r)
   pub record-as : (label : ℕ) (r : Record) → Follows encoded (recordRulesAs label r) (encodeAs label r)
@@ -117,6 +125,8 @@ pub demand1 : Demand1
 demand1 = record {
   word = judgement.word-order document01;
   word-as = judgement.word-order;
+  page = page-theorems.follows;
+  page-untouched = page-theorems.untouched;
   «record» = λ r. record-follows (recordLabel document01 r) r;
   record-as = record-follows-as;
   figure = figure-follows;

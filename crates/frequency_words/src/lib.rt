@@ -19,8 +19,8 @@ fn decimal_status_in(word: u32) -> Status
     statuses::decimal_status(word / 536870912 % 4)
 }
 
-// The rules of a frequency word.
-fn frequency_judgement(band: Band, word: u32) -> Judgement
+// Whether a frequency word keeps its rules, or the first that it breaks.
+pub fn frequency_judgement(band: Band, word: u32) -> Judgement
     ensures { λ r. ⌜ r ≡ judgement (decimal band word) ⌝ }
 {
     let digits = (word / 16384 % 16 <= 9)

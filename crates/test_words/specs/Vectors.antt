@@ -4,26 +4,9 @@ use mathlib.Core.Bool.{Bool, not, _&&_}
 use Prim.Native.Nat.{ℕ, suc}
 use lib.Dec.{eqb}
 use lib.IntN.{ℤ, pos, negsuc}
-use Rattle.refusals.specs.Numbers.{numberOf}
 use Rattle.decode.specs.Decode.{decodeOf}
-use Rattle.decode.specs.declared.Decoded.{Decoded}
-use Rattle.measurements.specs.Measurements.{measurementOf}
-use Rattle.measurements.specs.declared.Measurement.{Measurement}
+use Rattle.pages.specs.Page.{refusalIn, countOf}
 use Rattle.test_words.specs.declared.Expected.{Expected}
-
--- the number of a word's refusal
-abbrev pub refusalIn : Decoded → ℕ
-refusalIn (Decoded.Accepted r) = 0
-refusalIn (Decoded.Refused f) = numberOf f
-
--- the count of a word of the five measured labels
-abbrev pub countIn : Measurement → ℤ
-countIn (Measurement.Count q c) = c
-countIn Measurement.Nothing = pos 0
-
-abbrev pub countOf : Decoded → ℤ
-countOf (Decoded.Accepted r) = countIn (measurementOf (r .body))
-countOf (Decoded.Refused f) = pos 0
 
 -- a number is written with this sign and size
 abbrev pub written : ℤ → Bool → ℕ → Bool

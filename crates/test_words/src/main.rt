@@ -5,7 +5,8 @@ use measurements::Measurement;
 use test_vectors::Tally;
 ghost use mathlib.Core.Path.{_≡_};
 ghost use Rattle.decode.specs.Decode.{decodeOf};
-ghost use Rattle.test_words.specs.Vectors.{refusalIn, countIn, countOf, written, right};
+ghost use Rattle.pages.specs.Page.{refusalIn, countIn, countOf};
+ghost use Rattle.test_words.specs.Vectors.{written, right};
 
 // What a line says of a word.
 struct Expected {

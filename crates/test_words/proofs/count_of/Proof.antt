@@ -3,7 +3,7 @@
 use mathlib.Core.Path.{sym, ap, _∙_}
 use borrow.Author.Needs.{needs}
 use mir.Facts.{toZ-ofZ}
-use Rattle.test_words.specs.Vectors.{countIn, countOf}
+use Rattle.pages.specs.Page.{countIn, countOf}
 use Rattle.test_words.proofs.count_of.Statement.{statement}
 use Rattle.test_words.proofs.count_of.Tie as tie
 

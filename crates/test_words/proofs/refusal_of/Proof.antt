@@ -1,7 +1,7 @@
 -- What decoding gives, by its two cases.
 -- Assumes nothing.
 use mathlib.Core.Path.{sym, ap, _∙_}
-use Rattle.test_words.specs.Vectors.{refusalIn}
+use Rattle.pages.specs.Page.{refusalIn}
 use borrow.Author.Needs.{needs}
 use Rattle.test_words.proofs.refusal_of.Statement.{statement}
 use Rattle.test_words.proofs.refusal_of.Tie as tie
