@@ -45,7 +45,8 @@ int baseline_list(const uint8_t *sheet, size_t length, char *text, size_t room, 
 /* The offset is 0 but for the sheet's own refusal. */
 int baseline_summarize(const uint8_t *sheet, size_t length, uint8_t label, uint8_t source, struct baseline_summary *summary,
                        size_t *offset);
-/* A page of words: a record and an answer for each; the record of a refused word is left as it was. */
-void baseline_decode_page(const uint32_t *words, size_t length, struct baseline_record *records, uint8_t *answers);
+/* A page of words: the refusal and the count of each, 0 where it has none. 13 if a list is shorter than the words. */
+int baseline_decode_page(const uint32_t *words, size_t length, uint8_t *refusals, size_t refusals_room, int16_t *counts,
+                         size_t counts_room);
 
 #endif

@@ -5,8 +5,9 @@
  * enum lampcygnet_refusal; beside a refusal every other field is 0 unless it is said what it is. Functions may be called from several threads at once.
  *
  * Bytes are passed as a pointer and a length: the bytes must be there, for the whole call; the pointer may be null where the length is 0. A buffer that
- * is written is named `out`, with its length `room`; it must not overlap the bytes that are read. No other memory is written, and beside a refusal none
- * at all.
+ * is written is named `out`, with its length `room`; it must not overlap the bytes that are read. A page's words and its two lists are passed likewise,
+ * in elements: each list has its own room, and overlaps neither the words nor the other list. No other memory is written, and beside a refusal none at
+ * all.
  *
  * C99, and C++ from C++98 with <stdint.h> and <stdbool.h> at hand. Link with the static library.
  */
@@ -124,6 +125,13 @@ struct lampcygnet_record lampcygnet_decode(uint32_t word);
  * where another field of the kind is not legal, as a flag above 1 or a VOR frequency of 178.33 MHz that is ready. `refusal` and the fields that the kind has not are not looked at; the word's record has 0 there.
  */
 struct lampcygnet_word lampcygnet_encode(struct lampcygnet_record fields);
+
+/*
+ * A page of words at once: into one list the refusal of each word, 0 if it is accepted, into the other the count of its record, 0 where there is none,
+ * both as lampcygnet_decode gives them. Elements past the last word are left as they were. The answer is the refusal of the call: 13 where a list is
+ * shorter than the words, else 0; a refused word is an answer in the list.
+ */
+uint8_t lampcygnet_decode_page(const uint32_t *words, size_t length, uint8_t *refusals, size_t refusals_room, int16_t *counts, size_t counts_room);
 
 /* ---- Readings and the chart point ---- */
 

@@ -43,7 +43,14 @@ extern "C" {
         summary: *mut Summary,
         offset: *mut usize,
     ) -> i32;
-    fn baseline_decode_page(words: *const u32, length: usize, records: *mut Record, answers: *mut u8);
+    fn baseline_decode_page(
+        words: *const u32,
+        length: usize,
+        refusals: *mut u8,
+        refusals_room: usize,
+        counts: *mut i16,
+        counts_room: usize,
+    ) -> i32;
 }
 
 #[inline]
@@ -107,9 +114,12 @@ pub fn summarize(sheet: &[u8], label: u8, source: u8) -> Result<Summary, (u8, us
     }
 }
 
-/// A page of words; the three slices are of one length.
-pub fn decode_page(words: &[u32], records: &mut [Record], answers: &mut [u8]) {
-    assert!(words.len() == records.len() && words.len() == answers.len());
-    // SAFETY: one record and one answer for each word.
-    unsafe { baseline_decode_page(words.as_ptr(), words.len(), records.as_mut_ptr(), answers.as_mut_ptr()) }
+/// A page of words into two lists, or 13.
+pub fn decode_page(words: &[u32], refusals: &mut [u8], counts: &mut [i16]) -> Result<(), u8> {
+    let (list, room) = (refusals.as_mut_ptr(), refusals.len());
+    // SAFETY: pointers and lengths are those of the slices.
+    match unsafe { baseline_decode_page(words.as_ptr(), words.len(), list, room, counts.as_mut_ptr(), counts.len()) } {
+        0 => Ok(()),
+        refusal => Err(refusal as u8),
+    }
 }

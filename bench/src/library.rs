@@ -22,6 +22,32 @@ pub fn decode(word: u32) -> Result<Record, u8> {
     }
 }
 
+/// A page of words into two lists, or 13.
+pub fn decode_page(words: &[u32], refusals: &mut [u8], counts: &mut [i16]) -> Result<(), u8> {
+    let (list, room) = (refusals.as_mut_ptr(), refusals.len());
+    // SAFETY: pointers and lengths are those of the slices.
+    let refusal = unsafe {
+        ffi::lampcygnet_decode_page(words.as_ptr(), words.len(), list, room, counts.as_mut_ptr(), counts.len())
+    };
+    match refusal {
+        0 => Ok(()),
+        refusal => Err(refusal),
+    }
+}
+
+/// The same with a call for each word.
+pub fn decode_singly(words: &[u32], refusals: &mut [u8], counts: &mut [i16]) -> Result<(), u8> {
+    if refusals.len() < words.len() || counts.len() < words.len() {
+        return Err(13);
+    }
+    for ((&word, refusal), count) in words.iter().zip(refusals).zip(counts) {
+        // SAFETY: the function takes any number and writes to no memory.
+        let record = unsafe { ffi::lampcygnet_decode(word) };
+        (*refusal, *count) = (record.refusal, record.count);
+    }
+    Ok(())
+}
+
 #[inline]
 pub fn code(label: u8, source: u8, millionths: i64) -> Result<u32, u8> {
     // SAFETY: the function takes any numbers and writes to no memory.

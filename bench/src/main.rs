@@ -1,5 +1,6 @@
 //! Times the library beside plain C and Rust and prints a table: nanoseconds for a word, a figure, an explanation or a sheet's
-//! byte, each the best of several runs in which all take turns, and the library's time divided by C's.
+//! byte, each the best of several runs in which all take turns, and the library's time divided by C's. Words are timed singly
+//! and in pages.
 
 use bench::{c, input, library, rust};
 use lampcygnet::sheet::{self, Sheet};
@@ -9,6 +10,9 @@ use std::time::Instant;
 /// How often each is timed, and over how many words, figures, explanations or bytes each time.
 const RUNS: usize = 15;
 const ITEMS: usize = 1_000_000;
+
+/// The lengths of runs and of pages that are timed.
+const LENGTHS: [usize; 4] = [1_000, 10_000, 100_000, 1_000_000];
 
 /// The label and source for which a sheet is summed up.
 const CHOICE: (u8, u8) = (0o173, 1);
@@ -118,6 +122,27 @@ const CONTESTANTS: [Contestant; 4] = [
     },
 ];
 
+type DecodePage = fn(&[u32], &mut [u8], &mut [i16]) -> Result<(), u8>;
+
+/// Who is timed over pages. The function fills two lists, or gives 13.
+struct Pager {
+    name: &'static str,
+    decode_page: DecodePage,
+}
+
+const PAGERS: [Pager; 5] = [
+    Pager { name: "library", decode_page: library::decode_page },
+    Pager { name: "C", decode_page: c::decode_page },
+    Pager { name: "Rust", decode_page: rust::decode_page },
+    Pager {
+        name: "crate",
+        decode_page: |words, refusals, counts| {
+            lampcygnet::decode_page(words, refusals, counts).map_err(|refusal| refusal.number())
+        },
+    },
+    Pager { name: "single calls", decode_page: library::decode_singly },
+];
+
 /// The number of an answer: that of a refusal, or the source of the record.
 #[inline(always)]
 fn decode_all(words: &[u32], decode: impl Fn(u32) -> Result<u8, u8>) -> u64 {
@@ -157,40 +182,89 @@ fn summed_up<T>(answer: Result<T, (u8, usize)>, numbers: impl Fn(T) -> Numbers) 
     }
 }
 
-/// The least time of each contestant for one item, in nanoseconds, over inputs that have so many items together. Each input is
+/// The least time of each who is named for one item, in nanoseconds, over inputs that have so many items together. Each input is
 /// seen once in a run, so that a short one is no more foreseen than a long one.
-fn times(items: usize, inputs: usize, mut work: impl FnMut(&Contestant, usize) -> u64) -> [f64; CONTESTANTS.len()] {
-    let mut least = [f64::INFINITY; CONTESTANTS.len()];
-    let expected: Vec<u64> = (0..inputs).map(|input| work(&CONTESTANTS[0], input)).collect();
+fn least_times<const N: usize>(
+    names: [&str; N],
+    items: usize,
+    inputs: usize,
+    mut work: impl FnMut(usize, usize) -> u64,
+) -> [f64; N] {
+    let mut least = [f64::INFINITY; N];
+    let expected: Vec<u64> = (0..inputs).map(|input| work(0, input)).collect();
     for _ in 0..RUNS {
-        for (contestant, least) in CONTESTANTS.iter().zip(&mut least) {
+        for (who, least) in least.iter_mut().enumerate() {
             let start = Instant::now();
-            let right = (0..inputs).all(|input| black_box(work(contestant, input)) == expected[input]);
+            let right = (0..inputs).all(|input| black_box(work(who, input)) == expected[input]);
             let time = start.elapsed().as_secs_f64();
-            assert!(right, "{} answers otherwise", contestant.name);
+            assert!(right, "{} answers otherwise", names[who]);
             *least = least.min(time * 1e9 / items as f64);
         }
     }
     least
 }
 
-fn heading(title: &str) {
+/// The same of the contestants.
+fn times(items: usize, inputs: usize, mut work: impl FnMut(&Contestant, usize) -> u64) -> [f64; CONTESTANTS.len()] {
+    let names = CONTESTANTS.map(|contestant| contestant.name);
+    least_times(names, items, inputs, |who, input| work(&CONTESTANTS[who], input))
+}
+
+fn table(title: &str, names: &[&str], ratios: &[&str]) {
     println!("\n{title}\n");
-    println!("| Input | {} | library / C |", CONTESTANTS.map(|contestant| contestant.name).join(" | "));
-    println!("|---|{}---:|", "---:|".repeat(CONTESTANTS.len()));
+    println!("| Input | {} |", [names, ratios].concat().join(" | "));
+    println!("|---|{}", "---:|".repeat(names.len() + ratios.len()));
+}
+
+fn line(name: &str, times: &[f64], ratios: &[f64]) {
+    let times = times.iter().map(|&time| if time < 1.0 { format!("{time:.3}") } else { format!("{time:.2}") });
+    let ratios = ratios.iter().map(|ratio| format!("{ratio:.2}"));
+    println!("| {name} | {} |", times.chain(ratios).collect::<Vec<String>>().join(" | "));
+}
+
+fn heading(title: &str) {
+    table(title, &CONTESTANTS.map(|contestant| contestant.name), &["library / C"]);
 }
 
 fn row(name: &str, times: [f64; CONTESTANTS.len()]) {
-    let shown = times.map(|time| if time < 1.0 { format!("{time:.3}") } else { format!("{time:.2}") });
-    println!("| {name} | {} | {:.2} |", shown.join(" | "), times[0] / times[1]);
+    line(name, &times, &[times[0] / times[1]]);
 }
 
 /// Rows for calls that are made over runs of 1,000 to 1,000,000 words, figures or explanations.
 fn rows_by_length<T>(name: &str, items: &[T], work: fn(&Contestant, &[T]) -> u64) {
-    for length in [1_000, 10_000, 100_000, 1_000_000] {
+    for length in LENGTHS {
         let runs: Vec<&[T]> = items.chunks_exact(length).collect();
         let times = times(runs.len() * length, runs.len(), |who, run| work(who, black_box(runs[run])));
         row(&format!("{length} {name}"), times);
+    }
+}
+
+/// The lists of all pages of so many words, one after the other.
+fn lists_of_pages(pager: &Pager, words: &[u32], length: usize) -> (Vec<u8>, Vec<i16>) {
+    let (mut refusals, mut counts) = (vec![u8::MAX; words.len()], vec![i16::MAX; words.len()]);
+    let lists = refusals.chunks_exact_mut(length).zip(counts.chunks_exact_mut(length));
+    for (page, (refusals, counts)) in words.chunks_exact(length).zip(lists) {
+        assert_eq!((pager.decode_page)(page, refusals, counts), Ok(()), "{}", pager.name);
+    }
+    (refusals, counts)
+}
+
+/// Rows for pages of 1,000 to 1,000,000 words. All lists are compared before they are timed; then only their last elements are.
+fn rows_by_page(name: &str, words: &[u32]) {
+    for length in LENGTHS {
+        let lists = PAGERS.map(|pager| lists_of_pages(&pager, words, length));
+        assert!(lists.iter().all(|filled| *filled == lists[0]), "the pages differ");
+        let pages: Vec<&[u32]> = words.chunks_exact(length).collect();
+        let (mut refusals, mut counts) = (vec![0; length], vec![0; length]);
+        let names = PAGERS.map(|pager| pager.name);
+        let times = least_times(names, pages.len() * length, pages.len(), |who, page| {
+            let answer = (PAGERS[who].decode_page)(black_box(pages[page]), &mut refusals, &mut counts);
+            black_box((&mut refusals, &mut counts));
+            let last = u64::from(refusals[length - 1]) << 16 | u64::from(counts[length - 1] as u16);
+            answer.map_or_else(|refusal| u64::from(refusal) << 32, |()| last)
+        });
+        let [library, c, .., single] = times;
+        line(&format!("{length} {name}"), &times, &[library / c, single / library]);
     }
 }
 
@@ -232,6 +306,9 @@ fn main() {
     heading("A word to its record, ns a word:");
     rows_by_length("words of any bits", &any, |who, words| (who.decode)(words));
     rows_by_length("words of a receiver", &received, |who, words| (who.decode)(words));
+    table("A page of words, ns a word:", &PAGERS.map(|pager| pager.name), &["library / C", "single / library"]);
+    rows_by_page("words of any bits", &any);
+    rows_by_page("words of a receiver", &received);
     heading("A figure to its word, ns a figure:");
     rows_by_length("figures", &figures, |who, figures| (who.code)(figures));
     heading("Why a figure and a word disagree, ns an explanation:");

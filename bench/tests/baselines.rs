@@ -54,6 +54,9 @@ impl Subject for C {
     fn decode(&self, word: u32) -> Result<Record, u8> {
         c::decode(word).map(|r| record(r.label, r.source, r.status, r.code, r.value.into()))
     }
+    fn decode_page(&self, words: &[u32], refusals: &mut [u8], counts: &mut [i16]) -> Result<(), u8> {
+        c::decode_page(words, refusals, counts)
+    }
     fn code(&self, label: u8, source: u8, millionths: i64) -> Result<u32, u8> {
         c::code(label, source, millionths)
     }
@@ -104,6 +107,9 @@ impl Subject for Rust {
             };
             record(r.label, r.source, status, code, value)
         })
+    }
+    fn decode_page(&self, words: &[u32], refusals: &mut [u8], counts: &mut [i16]) -> Result<(), u8> {
+        rust::decode_page(words, refusals, counts)
     }
     fn code(&self, label: u8, source: u8, millionths: i64) -> Result<u32, u8> {
         rust::code(label, source, millionths)
@@ -226,18 +232,50 @@ fn timed_explanations() {
     }
 }
 
-/// A page is its words one by one, and leaves the record of a refused word alone.
+/// Pages of every sort and of every length up to 300, into lists too short, as long as the words and longer; and pages of every four
+/// digits of a frequency.
 #[test]
 fn pages() {
-    let mut random = Random::from_environment("pages", 13);
-    let words: Vec<u32> = (0..5000).map(|_| generate::any_word(&mut random)).collect();
-    let mut records = vec![c::Record { label: 255, ..Default::default() }; words.len()];
-    let mut answers = vec![255; words.len()];
-    c::decode_page(&words, &mut records, &mut answers);
-    for ((word, record), answer) in words.into_iter().zip(records).zip(answers) {
-        let page = if answer == 0 { Ok(record) } else { Err(answer) };
-        assert_eq!(page, c::decode(word));
-        assert!(answer == 0 || record.label == 255);
+    each(|subject| {
+        let mut random = Random::from_environment("pages", 13);
+        (0..20_000).try_for_each(|_| compare::random_page(subject, &mut random))?;
+        (0..=300).try_for_each(|length| compare::page_rooms(subject, &mut random, length))?;
+        [0o034, 0o033, 0o036].into_iter().try_for_each(|label| {
+            let words: Vec<u32> = generate::words_of_every_digit(label).collect();
+            compare::page(subject, &words, &vec![99; words.len()], &vec![99; words.len()])
+        })
+    });
+}
+
+/// The library's single calls for each word of a page.
+struct Singly;
+
+impl Subject for Singly {
+    fn decode_page(&self, words: &[u32], refusals: &mut [u8], counts: &mut [i16]) -> Result<(), u8> {
+        library::decode_singly(words, refusals, counts)
+    }
+}
+
+/// The library's pages as C has them.
+struct Paged;
+
+impl Subject for Paged {
+    fn decode_page(&self, words: &[u32], refusals: &mut [u8], counts: &mut [i16]) -> Result<(), u8> {
+        library::decode_page(words, refusals, counts)
+    }
+}
+
+/// The words that are timed, as pages: the C, the Rust, the library and its single calls give the model's answers.
+#[test]
+fn timed_pages() {
+    let mut random = input::Random::new(21);
+    let words = [input::any_words(&mut random, 50_000), input::receiver_words(&mut random, 50_000)];
+    for subject in [&C as &dyn Subject, &Rust, &Singly, &Paged] {
+        for words in &words {
+            compare::page(subject, words, &vec![99; words.len()], &vec![99; words.len() + 1]).unwrap();
+            compare::page(subject, words, &vec![99; words.len() - 1], &vec![99; words.len()]).unwrap();
+        }
+        compare::page(subject, &[], &[], &[]).unwrap();
     }
 }
 
@@ -317,4 +355,16 @@ fn longest_listing() {
 #[ignore]
 fn every_word() {
     each(|subject| (0..=u32::MAX).try_for_each(|word| compare::word(subject, word)));
+}
+
+/// The same in pages.
+#[test]
+#[ignore]
+fn every_word_in_pages() {
+    each(|subject| {
+        (0..1 << 16).try_for_each(|upper: u32| {
+            let words: Vec<u32> = (0..1 << 16).map(|lower| upper << 16 | lower).collect();
+            compare::page(subject, &words, &[99; 1 << 16], &[99; 1 << 16])
+        })
+    });
 }

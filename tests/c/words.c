@@ -1,6 +1,7 @@
 /*
  * The word part of the library, called from C and from C++: the layout of its structures, document 01's lines, and the files of test vectors that
- * are named on the command line, line by line: words* and raster*, joins*, explain*, and any other name for figures.
+ * are named on the command line, line by line: words* and raster*, joins*, explain*, and any other name for figures. The words of words* and raster*
+ * are also decoded in pages.
  */
 #include "expect.h"
 #include "lampcygnet.h"
@@ -76,6 +77,98 @@ static void test_decoding(void)
     EXPECT(decoded(UINT32_C(0xEB4400D6)).refusal == LAMPCYGNET_REFUSED_VALUE);
     EXPECT(decoded(UINT32_C(0xE1400036)).refusal == LAMPCYGNET_REFUSED_ANGLE_PARITY);
     EXPECT(decoded(UINT32_C(0xE8000048)).refusal == LAMPCYGNET_REFUSED_PARITY);
+}
+
+/* ---- Pages ---- */
+
+#define PAGE_MOST 2000
+#define LIST (PAGE_MOST + 16)
+#define PATTERN 0xA5
+
+static uint32_t page[PAGE_MOST];
+static uint8_t refusals[LIST];
+static int16_t counts[LIST];
+
+/* Decodes words of the page into lists that are filled anew and have so much room. */
+static uint8_t decode_page(size_t first, size_t length, size_t refusals_room, size_t counts_room)
+{
+    memset(refusals, PATTERN, sizeof refusals);
+    memset(counts, PATTERN, sizeof counts);
+    return lampcygnet_decode_page(page + first, length, refusals, refusals_room, counts, counts_room);
+}
+
+/* Both lists stand from a place on as they were filled. */
+static int are_untouched(size_t place)
+{
+    const uint8_t *bytes = (const uint8_t *)counts;
+    size_t i;
+    for (i = place; i < LIST; i++) {
+        if (refusals[i] != PATTERN || bytes[2 * i] != PATTERN || bytes[2 * i + 1] != PATTERN) {
+            return 0;
+        }
+    }
+    return 1;
+}
+
+/* Each word of a page has the answer of the single call. */
+static int are_single_answers(size_t first, size_t length)
+{
+    size_t i;
+    for (i = 0; i < length; i++) {
+        struct lampcygnet_record r = lampcygnet_decode(page[first + i]);
+        if (refusals[i] != r.refusal || counts[i] != r.count) {
+            return 0;
+        }
+    }
+    return 1;
+}
+
+/* Words of the page into lists longer than they are, as long, and too short by one and by all. */
+static void expect_page(size_t first, size_t length)
+{
+    EXPECT(decode_page(first, length, LIST, LIST) == LAMPCYGNET_ACCEPTED);
+    EXPECT(are_single_answers(first, length) && are_untouched(length));
+    EXPECT(decode_page(first, length, length, length + 1) == LAMPCYGNET_ACCEPTED);
+    EXPECT(are_single_answers(first, length) && are_untouched(length));
+    EXPECT(decode_page(first, length, length + 1, length) == LAMPCYGNET_ACCEPTED);
+    EXPECT(are_single_answers(first, length) && are_untouched(length));
+    if (length > 0) {
+        EXPECT(decode_page(first, length, length - 1, LIST) == LAMPCYGNET_REFUSED_ROOM && are_untouched(0));
+        EXPECT(decode_page(first, length, LIST, length - 1) == LAMPCYGNET_REFUSED_ROOM && are_untouched(0));
+        EXPECT(decode_page(first, length, length - 1, length - 1) == LAMPCYGNET_REFUSED_ROOM && are_untouched(0));
+        EXPECT(decode_page(first, length, 0, LIST) == LAMPCYGNET_REFUSED_ROOM && are_untouched(0));
+        EXPECT(decode_page(first, length, LIST, 0) == LAMPCYGNET_REFUSED_ROOM && are_untouched(0));
+    }
+}
+
+/* So many words as one page, and pages of a few of them. */
+static void expect_pages(size_t length)
+{
+    size_t first;
+    expect_page(0, length);
+    for (first = 0; first < length; first++) {
+        const size_t few = first % 37;
+        expect_page(first, few < length - first ? few : length - first);
+    }
+}
+
+/* Words that are accepted with a count, also under nodata and failure, or without one, and refused ones. */
+static void test_pages(void)
+{
+    static const uint32_t words[8] = {UINT32_C(0x640000DE), UINT32_C(0x7FFF00DE), UINT32_C(0x640000DF), UINT32_C(0xA40000DE),
+                                      UINT32_C(0x040000DE), UINT32_C(0x04C80038), UINT32_C(0xEB4400D6), UINT32_C(0xE1400036)};
+    static const uint8_t refused[8] = {0, 0, LAMPCYGNET_REFUSED_PARITY, 0, 0, 0, LAMPCYGNET_REFUSED_VALUE, LAMPCYGNET_REFUSED_ANGLE_PARITY};
+    static const int16_t counted[8] = {1024, -1, 0, 1024, 1024, 0, 0, 0};
+    memcpy(page, words, sizeof words);
+    EXPECT(decode_page(0, 8, 8, 8) == LAMPCYGNET_ACCEPTED);
+    EXPECT(memcmp(refusals, refused, sizeof refused) == 0 && memcmp(counts, counted, sizeof counted) == 0 && are_untouched(8));
+    expect_pages(8);
+    /* no words and lists of no room, also at null pointers */
+    EXPECT(decode_page(0, 0, 0, 0) == LAMPCYGNET_ACCEPTED && are_untouched(0));
+    EXPECT(lampcygnet_decode_page(NULL, 0, NULL, 0, NULL, 0) == LAMPCYGNET_ACCEPTED);
+    EXPECT(lampcygnet_decode_page(NULL, 0, refusals, LIST, counts, LIST) == LAMPCYGNET_ACCEPTED && are_untouched(0));
+    EXPECT(lampcygnet_decode_page(page, 1, NULL, 0, counts, LIST) == LAMPCYGNET_REFUSED_ROOM && are_untouched(0));
+    EXPECT(lampcygnet_decode_page(page, 1, refusals, LIST, NULL, 0) == LAMPCYGNET_REFUSED_ROOM && are_untouched(0));
 }
 
 /* A legal record of each kind, with every field that the kind has. */
@@ -470,8 +563,8 @@ static void test_reassembly(void)
     EXPECT(s.refusal == LAMPCYGNET_REFUSED_SEQUENCE && s.next.parts == 0 && s.next.bits == 0);
 }
 
-/* A word in hexadecimal, the number of its refusal, its count. */
-static void word_line(const char *text, long line)
+/* A word in hexadecimal, the number of its refusal, its count. The page takes the word too. */
+static void word_line(size_t *length, const char *text, long line)
 {
     unsigned long word;
     unsigned refusal;
@@ -484,6 +577,11 @@ static void word_line(const char *text, long line)
     r = decoded((uint32_t)word);
     expect(r.refusal == refusal, "refusal", line);
     expect(r.count == count, "count", line);
+    if (*length == PAGE_MOST) {
+        expect(0, "more words than a page has here", line);
+        return;
+    }
+    page[(*length)++] = (uint32_t)word;
 }
 
 /* A label in octal, a source, a figure, and a word in hexadecimal or `refused` and its number. */
@@ -550,6 +648,7 @@ static void run_file(const char *path)
 {
     char text[128];
     long line = 0;
+    size_t words = 0;
     struct lampcygnet_partial held = {0, 0, 0};
     const char *slash = strrchr(path, '/');
     const char *name = slash != NULL ? slash + 1 : path;
@@ -561,7 +660,7 @@ static void run_file(const char *path)
     while (fgets(text, (int)sizeof text, file) != NULL) {
         line++;
         if (strncmp(name, "words", 5) == 0 || strncmp(name, "raster", 6) == 0) {
-            word_line(text, line);
+            word_line(&words, text, line);
         } else if (strncmp(name, "joins", 5) == 0) {
             join_line(&held, text, line);
         } else if (strncmp(name, "explain", 7) == 0) {
@@ -571,6 +670,7 @@ static void run_file(const char *path)
         }
     }
     fclose(file);
+    expect_pages(words);
     printf("%s: %ld lines\n", name, line);
 }
 
@@ -579,6 +679,7 @@ int main(int argc, char **argv)
     int i;
     test_layout();
     test_decoding();
+    test_pages();
     test_encoding();
     test_flags();
     test_raster();

@@ -6,6 +6,7 @@ use crate::explain;
 use crate::figure::{self, Quantity};
 use crate::generate::{self, Random};
 use crate::listing;
+use crate::page;
 use crate::reading::{self, Reading, Value};
 use crate::reassembly::{self, Answer, Partial};
 use crate::sheet::{self, Content, Field, Refusal, WriteRefusal, LIMIT};
@@ -19,6 +20,12 @@ pub trait Subject: Sync {
     }
     fn encode(&self, record: &Record) -> Result<u32, u8> {
         word::encode(record)
+    }
+    fn decode_page(&self, words: &[u32], refusals: &mut [u8], counts: &mut [i16]) -> Result<(), u8> {
+        let page = page::decode_page(words, refusals, counts);
+        refusals.copy_from_slice(&page.refusals);
+        counts.copy_from_slice(&page.counts);
+        page.answer
     }
     fn reading(&self, word: u32) -> Result<Option<Reading>, u8> {
         word::decode(word).map(|record| reading::reading(&record))
@@ -94,6 +101,35 @@ pub fn word(subject: &dyn Subject, word: u32) -> Outcome {
         }
         Err(_) => Ok(()),
     }
+}
+
+/// A list after a call: the first element that is not the model's.
+fn same_list<T: PartialEq + std::fmt::Debug>(input: impl Fn() -> String, subject: &[T], model: &[T]) -> Outcome {
+    let mut elements = subject.iter().zip(model).enumerate();
+    elements.try_for_each(|(index, (theirs, ours))| same(|| format!("{}, element {index}", input()), theirs, ours))
+}
+
+/// A page of words into two lists as they stand before the call: the answer, and both lists whole afterwards.
+pub fn page(subject: &dyn Subject, words: &[u32], refusals: &[u8], counts: &[i16]) -> Outcome {
+    let model = page::decode_page(words, refusals, counts);
+    let (mut their_refusals, mut their_counts) = (refusals.to_vec(), counts.to_vec());
+    let answer = subject.decode_page(words, &mut their_refusals, &mut their_counts);
+    let start = &words[..words.len().min(400)];
+    let what = || format!("page of {}, {} and {}: {start:08X?}", words.len(), refusals.len(), counts.len());
+    same(what, answer, model.answer)?;
+    same_list(|| format!("refusals after {}", what()), &their_refusals, &model.refusals)?;
+    same_list(|| format!("counts after {}", what()), &their_counts, &model.counts)
+}
+
+/// A page of so many words into lists one element shorter, as long and one longer, each by itself.
+pub fn page_rooms(subject: &dyn Subject, random: &mut Random, length: usize) -> Outcome {
+    let words: Vec<u32> = (0..length).map(|_| generate::any_word(random)).collect();
+    let rooms = [length.saturating_sub(1), length, length + 1];
+    for (refusals, counts) in rooms.into_iter().flat_map(|one| rooms.map(|other| (one, other))) {
+        let (refusals, counts) = generate::lent_lists(random, refusals, counts);
+        page(subject, &words, &refusals, &counts)?;
+    }
+    Ok(())
 }
 
 /// A reading with its double as bits, so that only the very same double is the same.
@@ -300,6 +336,7 @@ pub fn parts(subject: &dyn Subject, words: &[u32]) -> Outcome {
 pub fn random(subject: &dyn Subject, random: &mut Random, rounds: usize) -> Outcome {
     for _ in 0..rounds {
         random_words(subject, random)?;
+        random_page(subject, random)?;
         random_figures(subject, random)?;
         random_explanations(subject, random)?;
         let bytes = generate::any_sheet(random);
@@ -324,6 +361,12 @@ pub fn random_words(subject: &dyn Subject, random: &mut Random) -> Outcome {
         chart_point(subject, course, glide)?;
     }
     Ok(())
+}
+
+/// A page of words of any sort, into lists of any rooms.
+pub fn random_page(subject: &dyn Subject, random: &mut Random) -> Outcome {
+    let (words, refusals, counts) = generate::any_page(random);
+    page(subject, &words, &refusals, &counts)
 }
 
 /// Figures coded, held against words, and counts printed.

@@ -322,6 +322,37 @@ pub fn chart_words(random: &mut Random) -> (u32, u32) {
     }
 }
 
+// ---- pages of words
+
+/// Two lists as they may stand before a page is decoded into them: any numbers.
+pub fn lent_lists(random: &mut Random, refusals_room: usize, counts_room: usize) -> (Vec<u8>, Vec<i16>) {
+    let refusals = random.bytes(refusals_room);
+    (refusals, (0..counts_room).map(|_| random.draw() as i16).collect())
+}
+
+/// The room of a list for so many words: theirs or a few more, here and there too little, by one more often than chance.
+fn lent_room(random: &mut Random, length: usize) -> usize {
+    match random.below(12) {
+        0 => length.saturating_sub(1),
+        1 => random.below(length as u64 + 1) as usize,
+        2..=5 => length,
+        _ => length + random.below(40) as usize,
+    }
+}
+
+/// A page and the two lists that are lent to it: words of all sorts or of one, from none to some hundreds, a few mostly.
+pub fn any_page(random: &mut Random) -> (Vec<u32>, Vec<u8>, Vec<i16>) {
+    const SORTS: [fn(&mut Random) -> u32; 7] =
+        [any_word, any_word, legal_word, measured_word, damaged_word, labelled_word, uniform_word];
+    let word = random.pick(&SORTS);
+    let most = if random.once_in(4) { 500 } else { 24 };
+    let length = random.below(most) as usize;
+    let words = (0..length).map(|_| word(random)).collect();
+    let (refusals_room, counts_room) = (lent_room(random, length), lent_room(random, length));
+    let (refusals, counts) = lent_lists(random, refusals_room, counts_room);
+    (words, refusals, counts)
+}
+
 // ---- figures
 
 /// The figures around a boundary given in units of 1/(2 x denominator) step: the millionths next to it on both sides.

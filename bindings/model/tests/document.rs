@@ -7,7 +7,7 @@ use model::reassembly::{step, Answer};
 use model::sheet::{self, Content};
 use model::word::{self, FAILURE, NODATA, READY, TEST};
 use model::{agrees, code, decode, encode, explain, explain_text, list, note, print_text, write, Body, Record};
-use model::{generate, summarize, summary_text};
+use model::{decode_page, generate, summarize, summary_text, Page};
 
 fn value(word: u32) -> Value {
     reading::reading(&decode(word).unwrap()).unwrap().value
@@ -393,6 +393,34 @@ fn order_of_word_refusals() {
     assert_eq!(decode(with_odd_ones(0x78 | 3 << 26)), Err(6));
     // A bad digit and a zero bit together: 3 comes first.
     assert_eq!(decode(with_odd_ones(0x38 | 10 << 14 | 1 << 10)), Err(3));
+}
+
+/// Request 6: the document's words as one page; "elements past the last word are untouched".
+#[test]
+fn pages() {
+    let course = |status| encode(&Record { source: 1, body: Body::IlsCourse { status, inhibit: true, count: -7 } });
+    let mut words = vec![0xE800_0049, 0xE800_0048, 0xFC00_0049, 0x6400_00DE, 0x7FFF_00DE, 0x04C8_0038, 0x841C_0078];
+    words.extend([0xEB3C_00D6, 0xEB44_00D6, 0x6940_0036, 0xE140_0036, 0]);
+    words.extend([FAILURE, NODATA, TEST, READY].map(|status| course(status).unwrap()));
+    let page = decode_page(&words, &[99; 18], &[-99; 17]);
+    assert_eq!(page.answer, Ok(()));
+    assert_eq!(page.refusals, [0, 1, 0, 0, 0, 0, 0, 0, 6, 0, 7, 1, 0, 0, 0, 0, 99, 99]);
+    assert_eq!(page.counts, [2048, 0, -1024, 1024, -1, 0, 0, 0, 0, 0, 0, 0, -7, -7, -7, -7, -99]);
+    let empty = Page { answer: Ok(()), refusals: vec![99], counts: vec![] };
+    assert_eq!(decode_page(&[], &[99], &[]), empty);
+}
+
+/// "Refusals: 13 when either lent list is shorter than the words, and then nothing is written."
+#[test]
+fn pages_refused() {
+    let words = [0xE800_0049, 0x6400_00DE];
+    for (refusals_room, counts_room) in [(1, 2), (2, 1), (0, 9), (9, 0), (1, 1), (0, 0)] {
+        let (refusals, counts) = (vec![99; refusals_room], vec![-99; counts_room]);
+        assert_eq!(decode_page(&words, &refusals, &counts), Page { answer: Err(13), refusals, counts });
+    }
+    // "A refused word is an answer in the list and no refusal of the call."
+    let refused = Page { answer: Ok(()), refusals: vec![1], counts: vec![0] };
+    assert_eq!(decode_page(&[0xE800_0048], &[99], &[-99]), refused);
 }
 
 fn with_odd_ones(word: u32) -> u32 {

@@ -9,7 +9,7 @@ use model::reading::{self, Reading, Value};
 use model::sheet::{self, Content, Field, LIMIT};
 use model::summary::{self, Summary};
 use model::word::{self, Body, Record, FAILURE, NODATA, READY, TEST};
-use model::{code, decode, encode, explain_text, print_millionths};
+use model::{code, decode, decode_page, encode, explain_text, print_millionths};
 use std::collections::{BTreeMap, BTreeSet};
 
 #[test]
@@ -66,6 +66,36 @@ fn damaged_words_reach_every_refusal() {
         seen[usize::from(decode(generate::any_word(&mut random)).err().unwrap_or(0))] += 1;
     }
     assert!(seen.iter().all(|&times| times > 50), "{seen:?}");
+}
+
+/// The pages made for comparisons reach every answer in the list, counts of every status and of both signs, and rooms too short, as
+/// long as the words and longer, of each list by itself; pages of no word and of some hundreds.
+#[test]
+fn pages_reach_every_answer() {
+    let mut random = Random::from_environment("pages", 15);
+    let (mut answers, mut counted) = ([0; 8], [[0; 2]; 4]);
+    let (mut rooms, mut empty, mut long) = ([[0; 3]; 3], 0, 0);
+    for _ in 0..5000 {
+        let (words, refusals, counts) = generate::any_page(&mut random);
+        let page = decode_page(&words, &refusals, &counts);
+        let [one, other] = [refusals.len(), counts.len()].map(|room| 1 + room.cmp(&words.len()) as i32);
+        rooms[one as usize][other as usize] += 1;
+        assert_eq!(page.answer, if one == 0 || other == 0 { Err(13) } else { Ok(()) });
+        if page.answer.is_ok() {
+            (empty, long) = (empty + u32::from(words.is_empty()), long + u32::from(words.len() > 400));
+            for (index, &word) in words.iter().enumerate() {
+                answers[usize::from(page.refusals[index])] += 1;
+                if let Some(count) = decode(word).ok().and_then(|record| word::count_of(&record)) {
+                    assert_eq!(i64::from(page.counts[index]), count);
+                    counted[(word >> 29 & 3) as usize][usize::from(count < 0)] += 1;
+                }
+            }
+        }
+    }
+    assert!(answers.iter().all(|&times| times > 50), "{answers:?}");
+    assert!(counted.as_flattened().iter().all(|&times| times > 50), "{counted:?}");
+    assert!(rooms.as_flattened().iter().all(|&times| times > 50), "{rooms:?}");
+    assert!(empty > 50 && long > 50, "{empty} {long}");
 }
 
 /// Words and records of frequencies, made for comparisons, reach every answer that each label has under each status: 6 everywhere
@@ -452,6 +482,20 @@ impl Subject for Wrong {
             _ => encode(record),
         }
     }
+    /// A count of a word without data is left out, a list of no room is taken, and one element more than the words is written.
+    fn decode_page(&self, words: &[u32], refusals: &mut [u8], counts: &mut [i16]) -> Result<(), u8> {
+        if refusals.is_empty() || counts.is_empty() {
+            return Ok(());
+        }
+        Model.decode_page(words, refusals, counts)?;
+        for (&word, count) in words.iter().zip(&mut *counts) {
+            *count *= i16::from(word >> 29 & 3 != 1);
+        }
+        if let Some(after) = counts.get_mut(words.len()) {
+            *after = 0;
+        }
+        Ok(())
+    }
     /// The last figure before a half step goes to the next count.
     fn code(&self, label: u8, source: u8, millionths: i64) -> Result<u32, u8> {
         match millionths {
@@ -517,6 +561,20 @@ fn comparison_of_frequencies() {
     assert!(compare::record(&Wrong, &vor(11_195)).is_err());
     assert!(compare::frequencies(&Wrong).is_err());
     assert!(compare::frequencies(&Model).is_ok());
+}
+
+#[test]
+fn comparison_of_pages() {
+    let word = |status| encode(&Record { source: 0, body: Body::IlsCourse { status, inhibit: false, count: 5 } });
+    let [ready, nodata] = [READY, NODATA].map(|status| word(status).unwrap());
+    assert!(compare::page(&Wrong, &[ready; 3], &[7; 4], &[7; 3]).is_ok());
+    assert!(compare::page(&Wrong, &[ready; 3], &[7; 2], &[7; 4]).is_ok());
+    assert!(compare::page(&Wrong, &[ready; 3], &[7; 3], &[7; 4]).unwrap_err().contains("element 3: got 0"));
+    assert!(compare::page(&Wrong, &[ready; 3], &[7; 0], &[7; 3]).is_err());
+    assert!(compare::page(&Wrong, &[ready; 3], &[7; 3], &[7; 0]).is_err());
+    assert!(compare::page(&Wrong, &[ready, nodata], &[7; 2], &[7; 2]).unwrap_err().contains("element 1: got 0"));
+    assert!((0..40).all(|length| compare::page_rooms(&Wrong, &mut Random::new(1), length).is_err()));
+    assert!((0..40).all(|length| compare::page_rooms(&Model, &mut Random::new(1), length).is_ok()));
 }
 
 #[test]

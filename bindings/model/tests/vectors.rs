@@ -35,6 +35,22 @@ fn words() {
     }
 }
 
+/// Each file as one page, its words at the start of longer lists.
+#[test]
+fn pages() {
+    for name in ["test_words/data/words.txt", "test_words/data/raster.txt"] {
+        let lines = lines(name, 900);
+        let words: Vec<u32> = lines.iter().map(|line| hex(&line[0])).collect();
+        let page = model::decode_page(&words, &vec![99; words.len() + 3], &vec![-99; words.len() + 5]);
+        assert_eq!(page.answer, Ok(()));
+        for (index, line) in lines.iter().enumerate() {
+            let answer = [page.refusals[index].to_string(), page.counts[index].to_string()];
+            assert_eq!(answer, line[1..], "{}", line[0]);
+        }
+        assert_eq!((&page.refusals[words.len()..], &page.counts[words.len()..]), (&[99; 3][..], &[-99; 5][..]));
+    }
+}
+
 #[test]
 fn figures() {
     let figures = lines("test_figures/data/figures.txt", 1100);

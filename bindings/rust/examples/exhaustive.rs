@@ -1,10 +1,10 @@
-//! All 2^32 words through the library and the model: both must answer the same. Prints how many get each answer, and how
-//! many are accepted of each label.
+//! All 2^32 words through the library and the model: both must answer the same, and so must the library's pages of these
+//! words. Prints how many get each answer, and how many are accepted of each label.
 
 #[path = "../tests/library/mod.rs"]
 mod library;
 
-use library::Library;
+use library::{page_beside_singles, single_answer, Library};
 use model::compare;
 use model::word::{self, LABELS};
 use std::process::ExitCode;
@@ -17,19 +17,31 @@ struct Totals {
     accepted: [u64; 15],
 }
 
+impl Totals {
+    /// Counts a word, and gives its answer.
+    fn add(&mut self, word: u32) -> (u8, i16) {
+        let (refusal, count) = single_answer(word);
+        self.answers[usize::from(refusal)] += 1;
+        if refusal == 0 {
+            let label = word::label_of(word);
+            self.accepted[LABELS.iter().position(|row| row.0 == label).unwrap()] += 1;
+        }
+        (refusal, count)
+    }
+}
+
+/// How many words a page has.
+const PAGE: u64 = 4096;
+
 fn totals(first: u64, end: u64) -> Result<Totals, String> {
     let mut totals = Totals::default();
-    for number in first..end {
-        let word = number as u32;
-        compare::word(&Library, word)?;
-        match lampcygnet::decode(word) {
-            Err(refusal) => totals.answers[usize::from(refusal.number())] += 1,
-            Ok(_) => {
-                totals.answers[0] += 1;
-                let label = word::label_of(word);
-                totals.accepted[LABELS.iter().position(|row| row.0 == label).unwrap()] += 1;
-            }
-        }
+    for start in (first..end).step_by(PAGE as usize) {
+        let numbers = start..end.min(start + PAGE);
+        let words: Vec<u32> = numbers.map(|number| number as u32).collect();
+        let answers = words
+            .iter()
+            .map(|&word| compare::word(&Library, word).map(|()| totals.add(word)));
+        page_beside_singles(&words, answers.collect::<Result<_, String>>()?)?;
     }
     Ok(totals)
 }

@@ -1,6 +1,6 @@
 //! The library's functions, as `include/lampcygnet.h` declares them. Each takes any values. Where a pointer and a length
-//! stand side by side, that many bytes must be there for the whole call; only those at `out` are written, and they must not
-//! overlap the others.
+//! stand side by side, that many elements must be there for the whole call; only those at `out`, or those at `refusals` and
+//! `counts`, are written, and they must not overlap any others.
 
 #[repr(C)]
 #[derive(Clone, Copy, Debug, Default, PartialEq, Eq)]
@@ -155,6 +155,14 @@ pub struct Summary {
 extern "C" {
     pub fn lampcygnet_decode(word: u32) -> Record;
     pub fn lampcygnet_encode(fields: Record) -> Word;
+    pub fn lampcygnet_decode_page(
+        words: *const u32,
+        length: usize,
+        refusals: *mut u8,
+        refusals_room: usize,
+        counts: *mut i16,
+        counts_room: usize,
+    ) -> u8;
     pub fn lampcygnet_reading_of(word: u32) -> Reading;
     pub fn lampcygnet_chart_point(course: u32, glide: u32) -> Point;
     pub fn lampcygnet_code_figure(label: u32, source: u32, millionths: i64) -> Word;

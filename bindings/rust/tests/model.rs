@@ -1,10 +1,10 @@
-//! The library beside the independent model, on many words, records, figures, runs of parts and sheets.
+//! The library beside the independent model, on many words, pages of them, records, figures, runs of parts and sheets.
 
 mod library;
 
 use lampcygnet::sheet::{self as sheets, Builder, Content, Sheet, SheetRefusal};
 use lampcygnet::{Reason, Reassembler, Refusal};
-use library::Library;
+use library::{page_beside_singles, single_answer, Library};
 use model::compare;
 use model::figure::QUANTITIES;
 use model::generate::{self, Random};
@@ -31,12 +31,19 @@ fn random_words() {
     }
 }
 
-/// All words of every label in the table, with both parities.
+/// All words of every label in the table, with both parities, one by one and in pages.
 #[test]
 fn words_of_every_label() {
     let words_of = |label: u8| {
-        for upper in 0..1u32 << 24 {
-            compare::word(&Library, upper << 8 | u32::from(label.reverse_bits())).unwrap();
+        for page in 0..1u32 << 12 {
+            let uppers = page << 12..(page + 1) << 12;
+            let words: Vec<u32> = uppers
+                .map(|upper| upper << 8 | u32::from(label.reverse_bits()))
+                .collect();
+            let answers = words
+                .iter()
+                .map(|&word| compare::word(&Library, word).map(|()| single_answer(word)));
+            page_beside_singles(&words, answers.collect::<Result<_, String>>().unwrap()).unwrap();
         }
     };
     thread::scope(|scope| {
@@ -44,6 +51,24 @@ fn words_of_every_label() {
             scope.spawn(move || half.iter().for_each(|row| words_of(row.0)));
         }
     });
+}
+
+/// Pages of words of every sort, of none to some hundreds, into lists too short, as long or longer: 40,000.
+#[test]
+fn random_pages() {
+    let mut random = Random::from_environment("pages", 15);
+    for _ in 0..40_000 {
+        compare::random_page(&Library, &mut random).unwrap();
+    }
+}
+
+/// Pages of every length up to 300, into lists one element shorter, as long and one longer.
+#[test]
+fn pages_of_every_length() {
+    let mut random = Random::from_environment("lengths of pages", 16);
+    for length in 0..=300 {
+        compare::page_rooms(&Library, &mut random, length).unwrap();
+    }
 }
 
 /// Every frequency as a record of VOR, ILS and MLS under every status, on a channel or off it, and every four digits in their words.

@@ -208,6 +208,54 @@ fn refused_words_have_no_numbers() {
     }
 }
 
+/// The list with other numbers around it: what is written outside would show.
+fn between<T: Copy>(list: &[T], around: T) -> Vec<T> {
+    [&[around; MARGIN][..], list, &[around; MARGIN]].concat()
+}
+
+/// A page is written to its two lists and nowhere else.
+#[test]
+fn pages_between_other_numbers() {
+    let mut random = Random::from_environment("pages between others", 33);
+    for _ in 0..20_000 {
+        let (words, refusals, counts) = generate::any_page(&mut random);
+        let (byte, number) = (random.draw() as u8, random.draw() as i16);
+        let (mut refusals_between, mut counts_between) = (between(&refusals, byte), between(&counts, number));
+        // Pointers and lengths are those of the words, and of the two lists inside longer ones, which are borrowed alone.
+        let answer = unsafe {
+            ffi::lampcygnet_decode_page(
+                words.as_ptr(),
+                words.len(),
+                refusals_between[MARGIN..].as_mut_ptr(),
+                refusals.len(),
+                counts_between[MARGIN..].as_mut_ptr(),
+                counts.len(),
+            )
+        };
+        let page = model::decode_page(&words, &refusals, &counts);
+        assert_eq!(answer, page.answer.err().unwrap_or(0));
+        assert_eq!(refusals_between, between(&page.refusals, byte), "{words:08X?}");
+        assert_eq!(counts_between, between(&page.counts, number), "{words:08X?}");
+    }
+}
+
+/// A page of no words at a null pointer is one; a list of none at a null pointer has no room for a word.
+#[test]
+fn no_words_at_null() {
+    let (words, refusals, counts) = (ptr::null(), ptr::null_mut(), ptr::null_mut());
+    let (word, mut refusal, mut count) = (0x640000DE, 99, 99);
+    // Each length beside a null pointer is 0, and beside a number 1.
+    unsafe {
+        assert_eq!(ffi::lampcygnet_decode_page(words, 0, refusals, 0, counts, 0), 0);
+        assert_eq!(ffi::lampcygnet_decode_page(words, 0, &mut refusal, 1, &mut count, 1), 0);
+        assert_eq!(ffi::lampcygnet_decode_page(&word, 1, refusals, 0, &mut count, 1), 13);
+        assert_eq!(ffi::lampcygnet_decode_page(&word, 1, &mut refusal, 1, counts, 0), 13);
+        assert_eq!((refusal, count), (99, 99));
+        assert_eq!(ffi::lampcygnet_decode_page(&word, 1, &mut refusal, 1, &mut count, 1), 0);
+        assert_eq!((refusal, count), (0, 1024));
+    }
+}
+
 /// Labels and sources above a byte, and counts of 64 bits.
 #[test]
 fn figures_of_any_numbers() {

@@ -323,6 +323,28 @@ fn summary_to_model(summary: Summary) -> model::Summary {
     }
 }
 
+/// The refusal and the count of a word by the single call, as a page has them.
+pub fn single_answer(word: u32) -> (u8, i16) {
+    match lampcygnet::decode(word) {
+        Ok(record) => (0, record.count().unwrap_or(0)),
+        Err(refusal) => (refusal.number(), 0),
+    }
+}
+
+/// A page beside the answers of the single calls.
+pub fn page_beside_singles(words: &[u32], singles: (Vec<u8>, Vec<i16>)) -> Result<(), String> {
+    let page = lampcygnet::decode_to_vecs(words);
+    if page == singles {
+        return Ok(());
+    }
+    let answers = |(refusals, counts): (Vec<u8>, Vec<i16>)| refusals.into_iter().zip(counts);
+    let mut beside = words.iter().zip(answers(page).zip(answers(singles)));
+    let (word, (theirs, single)) = beside.find(|(_, (theirs, single))| theirs != single).unwrap();
+    Err(format!(
+        "{word:08X} in a page: got {theirs:?}, the single call gives {single:?}"
+    ))
+}
+
 impl Subject for Library {
     fn decode(&self, word: u32) -> Result<model::Record, u8> {
         lampcygnet::decode(word).map(to_model).map_err(Refusal::number)
@@ -332,6 +354,13 @@ impl Subject for Library {
             Some(record) => record.encode().map_err(Refusal::number),
             None => model::encode(record),
         }
+    }
+    fn decode_page(&self, words: &[u32], refusals: &mut [u8], counts: &mut [i16]) -> Result<(), u8> {
+        lampcygnet::decode_page(words, refusals, counts).map_err(Refusal::number)?;
+        let (numbers, records_counts) = lampcygnet::decode_to_vecs(words);
+        assert_eq!((numbers.len(), records_counts.len()), (words.len(), words.len()));
+        assert!(refusals.starts_with(&numbers) && counts.starts_with(&records_counts));
+        Ok(())
     }
     fn reading(&self, word: u32) -> Result<Option<model::reading::Reading>, u8> {
         let shown = lampcygnet::reading(word).map_err(Refusal::number)?;
