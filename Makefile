@@ -1,49 +1,51 @@
 # Two commands do all the set-up: `make demo` and `make test`. Both need the Rattle kit's `rt`; the tests also need a C and C++ compiler and cargo.
-.PHONY: demo test check library programs test-c test-model test-rust test-programs test-install exhaustive bench install install-files uninstall fmt
+.PHONY: demo test check library programs gathered test-c test-model test-rust test-programs test-install exhaustive bench install install-files uninstall fmt
 
 VERSION = 0.1.0
 PREFIX = /usr/local
-
-# The prover makes and removes thousands of small files in each check: unless TMPDIR says where, they stand in memory, if there is room. A check of a crate that stands on many others then takes up to half as long.
-ifeq ($(origin TMPDIR), undefined)
-scratch := $(shell tests/scratch/run)
-ifneq ($(scratch),)
-export TMPDIR := $(scratch)
-endif
-endif
+PROGRAMS = list list_fields list_labels explain summary
 
 # Lists the example sheet.
 demo: programs
 	@./target/bin/list < examples/flight.sheet
 
-# The gate: the kinds of files, two wrong programs for each public function, layout of the sources; every proof from nothing, every must-fail edit and every program; then the model in Rust, the library from C, C++ and Rust beside the model, the programs where something goes wrong, and the installation.
-# Its last line is rt ci's own count.
+# The gate: the kinds of files, two wrong programs for each public function; then `rt ci` over the whole checkout as it stands: the layout, every proof, every wrong program, every program and test;
+# then the model in Rust, the library from C, C++ and Rust beside the model, the programs where something goes wrong, and the installation. Its last line is rt ci's own count.
+# rt ci passes an edit that no longer applies: here that fails. The programs that are tested are those that rt ci has built and run.
 test: SHELL := /bin/bash
 test:
 	tests/repository/run
-	rt fmt --check
 	cmp examples/flight.sheet crates/test_sheets/data/flight/0000.bin
 	cmp examples/flight.txt crates/test_sheets/data/flight/0000.txt
-	@set -o pipefail; log=$$(mktemp) && rt ci 2>&1 | tee "$$log" && $(MAKE) --no-print-directory test-model test-c test-rust test-programs test-install && tail -n 1 "$$log" && rm -f "$$log"
+	@set -o pipefail; mkdir -p target && rt ci 2>&1 | tee target/ci.log
+	@grep -q '^rt: ok; ' target/ci.log || { echo 'test: rt ci does not say that all is well' >&2; exit 1; }
+	@! grep -E '^rt: ok; .*, [1-9][0-9]* bad\b' target/ci.log >&2 || { echo 'test: a wrong program of must-fail/ cannot be tried as it stands' >&2; exit 1; }
+	@$(MAKE) --no-print-directory gathered test-model test-c test-rust
+	tests/programs/run
+	tests/install/run
+	@tail -n 1 target/ci.log
 
-# The daily loop: what has changed is proved again, the programs and the C and Rust tests are run; no wrong program is tried.
+# The daily loop: what has changed is proved again, the programs and the C and Rust tests are run; no wrong program is tried, and the layout is not looked at.
 check:
 	tests/repository/run
-	rt fmt --check
-	rt check
+	rt all check
 	@$(MAKE) --no-print-directory test-model test-c test-rust test-programs test-install
 
 # The programs that are installed: target/bin/list, target/bin/list_fields, target/bin/list_labels, target/bin/explain and target/bin/summary.
+# A run builds what is proved, unless nothing has changed; here it has no input and no argument.
 programs:
-	rt check list
-	rt check list_fields
-	rt check list_labels
-	rt check explain
-	rt check summary
+	@mkdir -p target; for name in $(PROGRAMS); do echo "proving and building $$name"; \
+		(cd "crates/$$name" && rt run < /dev/null > ../../target/rt.log 2>&1) || { cat target/rt.log >&2; exit 1; }; done
+	@$(MAKE) --no-print-directory gathered
+
+# The same of what is built already.
+gathered:
+	@mkdir -p target/bin; for name in $(PROGRAMS); do install -m 755 "crates/$$name/out/$$name" "target/bin/$$name" || exit 1; done
 
 # The static library that include/lampcygnet.h describes: target/staticlib/libcapi.a.
 library:
-	rt staticlib capi
+	@mkdir -p target/staticlib; echo 'proving and building capi'; (cd crates/capi && rt lib > ../../target/rt.log 2>&1) || { cat target/rt.log >&2; exit 1; }
+	@cmp -s crates/capi/out/libcapi.a target/staticlib/libcapi.a || install -m 644 crates/capi/out/libcapi.a target/staticlib/libcapi.a
 
 # The C tests, as C99 and as C++11, on the test vectors.
 test-c: library
@@ -106,5 +108,6 @@ test-programs: programs
 test-install: programs library
 	tests/install/run
 
+# Lays out the sources of every crate.
 fmt:
-	rt fmt
+	@for crate in crates/*/; do (cd "$$crate" && rt fmt) || exit 1; done

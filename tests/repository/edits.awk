@@ -3,7 +3,7 @@
 # Prints each public function with fewer than two; with list=1 every one, with its edits. Functions exported to C are left out: each is one call of a function that is counted.
 # So is one that gives no answer and has no `&mut` parameter, as one that only writes to standard output: a caller holds nothing afterwards that a promise could be about.
 
-FNR == 1 { source = ""; is_edit = (FILENAME ~ /\.edit$/); edit = FILENAME; sub(/.*\//, "", edit); sub(/\.edit$/, "", edit) }
+FNR == 1 { source = ""; in_attribute = 0; in_clause = 0; depth = 0; is_edit = (FILENAME ~ /\.edit$/); edit = FILENAME; sub(/.*\//, "", edit); sub(/\.edit$/, "", edit) }
 
 !is_edit {
     line = $0
@@ -21,6 +21,18 @@ FNR == 1 { source = ""; is_edit = (FILENAME ~ /\.edit$/); edit = FILENAME; sub(/
     }
     text[FILENAME] = text[FILENAME] line "\n"
     sub(/\/\/.*/, "", line)
+    # what an attribute or a clause names is a lemma or a definition, and no function that is called
+    if (line ~ /^ *#!?\[/) in_attribute = 1
+    if (line ~ /^ *(requires|ensures)\*?( [A-Za-z0-9_]+)? \{/) in_clause = 1
+    if (in_attribute) {
+        if (line ~ /\] *$/) in_attribute = 0
+        next
+    }
+    if (in_clause) {
+        depth += gsub(/\{/, "{", line) - gsub(/\}/, "}", line)
+        if (depth <= 0) { depth = 0; in_clause = 0 }
+        next
+    }
     if (current[FILENAME]) body[current[FILENAME]] = body[current[FILENAME]] " " line
     next
 }

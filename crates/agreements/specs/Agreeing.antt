@@ -15,7 +15,7 @@ use Rattle.decode.specs.declared.Decoded.{Decoded}
 use Rattle.encode.specs.declared.Encoded.{Encoded}
 use Rattle.roundtrip.specs.Reading.{accepted}
 use Rattle.quantities.specs.Nearest.{nearest_count}
-use Rattle.quantities.specs.Theorems.{coded}
+use Rattle.quantities.proofs.Theorems.{coded}
 use Rattle.quantities.specs.declared.Nearest.{Nearest}
 use Rattle.quantities.specs.declared.Quantity.{Quantity}
 use Rattle.quantities.specs.declared.Quantity.TheVariants.{Azimuth, Course, Glide, MlsAzimuth, MlsGlide}
@@ -23,7 +23,7 @@ use Rattle.figures.specs.declared.Measured.{Measured}
 use Rattle.figures.specs.Coding.{quantity_of, label_for, quantity_at, quantity_found, ready_body, coded_nearest, coded_under, coded_measured, coded_with}
 use Rattle.figures.specs.Demand.{count_bits}
 use Rattle.figures.specs.Words.{label_of_quantity, ready_decoded, legal_source}
-use Rattle.figures.specs.Theorems.{word-given}
+use Rattle.figures.proofs.Theorems.{word-given}
 use Rattle.measurements.specs.Measurements.{measurement_of}
 use Rattle.measurements.specs.declared.Measurement.{Measurement}
 use Rattle.agreements.specs.Agreement.{decoded_measurement, word_measurement, coded_measurement, equal, same_count, agrees_with, is_nearest, holds_nearest}

@@ -3,7 +3,7 @@
 use Rattle.std.specs.Prelude.{◌≡◌, cond, List, [], ◌++◌, ℕ, eqb, ℤ, pos}
 use Rattle.std.proofs.Common.{ap}
 use Rattle.refusals.specs.Numbers.{number_of}
-use Rattle.labels.specs.Assignment.{document01}
+use Rattle.labels.proofs.Assignment.{document01}
 use Rattle.quantities.specs.Nearest.{millionths_of}
 use Rattle.measurements.specs.declared.Measurement.{Measurement}
 use Rattle.agreements.specs.Agreement.{word_measurement}

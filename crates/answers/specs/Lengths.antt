@@ -7,8 +7,9 @@ use Rattle.std.specs.Int.Signed.{nat_abs-le}
 use Rattle.bits.specs.Fields.{bits}
 use Rattle.bits.specs.Complement.{signed, signed-holds}
 use Rattle.rounding.specs.Parts.{is_negative}
-use Rattle.refusals.specs.Numbers.{number_of, number-bounds}
-use Rattle.labels.specs.Assignment.{document01}
+use Rattle.refusals.specs.Numbers.{number_of}
+use Rattle.refusals.proofs.Numbers.{number-bounds}
+use Rattle.labels.proofs.Assignment.{document01}
 use Rattle.labels.specs.Label.{label_of}
 use Rattle.decode.specs.Decode.{decode_of}
 use Rattle.decode.specs.declared.Decoded.{Decoded}
@@ -29,7 +30,7 @@ use Rattle.text.specs.Ascii.{ascii}
 use Rattle.numerals.specs.Digits.{signed_fixed}
 use Rattle.numerals.specs.Theorems.{decimal-length, signed-length}
 use Rattle.typed_pairs.specs.Pairs.{line_of}
-use Rattle.typed_pairs.specs.Theorems.{passed_exactly, pair_within}
+use Rattle.typed_pairs.proofs.Theorems.{passed_exactly, pair_within}
 use Rattle.typed_pairs.specs.declared.TypedLine.{TypedLine}
 use Rattle.reason_texts.specs.ReasonTexts.{reason_text, because_text}
 use Rattle.answers.specs.Answers.{explained_text, figure_for, pair_answer, unread_answer, typed_answer, answer_text}

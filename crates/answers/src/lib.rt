@@ -1,7 +1,7 @@
 // What is answered to a typed line of a word and a figure: the definitions and their laws stand in specs/.
 
 // What a line is counted as.
-#[derive(Drop)]
+#[derive(Clone, Copy)]
 pub enum Outcome {
     Agrees,
     Disagrees,

@@ -2,12 +2,12 @@
 -- gives the values back, what is joined is bounded, and the mask finds the zero bits. Each is by one step along the segments.
 -- Assumes nothing.
 use Rattle.std.specs.Prelude.{◌≡◌, refl, Bool, true, false, ◌&&◌, List, [], ◌∷◌, ◌++◌, ◌↔◌, ℕ, ◌+◌, ◌-◌, ◌*◌, ◌/◌, ◌%◌, ◌^◌, ◌<◌, T, eqb}
-use Rattle.std.proofs.Common.{sym, ap, ap₂, ◌∙◌, subst, true≢false, add_assoc, mul_assoc, add-mul, mod-lt, mod-eq_of_lt, add_comm, zero-mul, div-one, div-add-mod', arith, eqb-true, eq-eqb, eqb→eq, lit<, pow_pos, pow-add, shr-shr}
+use Rattle.std.proofs.Common.{sym, ap, ap₂, ◌∙◌, subst, true≢false, add_assoc, mul_assoc, add-mul, mod-lt, add_comm, zero-mul, div-add-mod', arith, eqb-true, eq-eqb, eqb→eq, lit<, pow_pos, pow-add, shr-shr}
 use Rattle.std.proofs.Math.Nat.{mod-one, zero-div}
 use Rattle.std.proofs.Math.Arith.{digits_lt}
-use Rattle.std.proofs.lemmas.Nat.{shl-shr, mod-pow-add, and_block, and_mask}
-use Rattle.std.proofs.Math.Pow.{high, low, ones_lt}
-use Rattle.std.specs.Int.Bits.{bit_and, and_zero_r}
+use Rattle.std.proofs.lemmas.Nat.{shl-shr, mod-pow-add, and_block}
+use Rattle.std.proofs.Math.Pow.{high, low}
+use Rattle.std.specs.Int.Bits.{bit_and}
 use Rattle.bits.specs.Fields.{digits}
 use Rattle.bits.specs.Layout.{Segment, part, gap, contiguous, size, split, clear, Clear, Fit, join, mask}
 
@@ -30,10 +30,10 @@ same false true f g = g refl
 same false false f g = refl
 
 -- what `contiguous` says of a segment at place p after place o: it starts there, and the others follow
-starts : (o p : ℕ) (b : Bool) → T (eqb o p && b) → o ≡ p
+pub starts : (o p : ℕ) (b : Bool) → T (eqb o p && b) → o ≡ p
 starts o p b t = eqb→eq o p (and_left (eqb o p) b t)
 
-next : (o p : ℕ) (b : Bool) → T (eqb o p && b) → T b
+pub next : (o p : ℕ) (b : Bool) → T (eqb o p && b) → T b
 next o p b t = and_right (eqb o p) b t
 
 rejoin : (o p : ℕ) (b c : Bool) → T (eqb o p && b) → (T b → T c) → T (eqb o p && c)
@@ -128,23 +128,12 @@ both_zero a n d = (
 )
 
 -- one step along the segments: n bits of the mask that are s, then the others
-mask_step : (o p n : ℕ) (l : List Segment) (w s : ℕ) → o ≡ p → s < 2 ^ n → (bit_and (w / 2 ^ (p + n)) (mask l) ≡ 0) ↔ Clear l w
+pub mask_step : (o p n : ℕ) (l : List Segment) (w s : ℕ) → o ≡ p → s < 2 ^ n → (bit_and (w / 2 ^ (p + n)) (mask l) ≡ 0) ↔ Clear l w
     → (bit_and (w / 2 ^ o) (mask l * 2 ^ n + s) ≡ 0) ↔ ((bit_and (digits p n w) s ≡ 0) × Clear l w)
 mask_step o p n l w s e h above =
     let c = ap (λ (x : ℕ). bit_and (w / 2 ^ x) (mask l * 2 ^ n + s)) e ∙ and_cut w p n (mask l) s h in
     let b = both_zero (bit_and (w / 2 ^ (p + n)) (mask l)) n (bit_and (digits p n w) s) in
     (λ z. ((b.0 (sym c ∙ z)).1, above.0 (b.0 (sym c ∙ z)).0), λ z. c ∙ b.1 (above.1 z.1, z.0))
-
--- a word shares no bit with the mask just where its zero bits are zero
-pub mask-clear : (o : ℕ) (l : List Segment) (w : ℕ) → T (contiguous o l) → (bit_and (w / 2 ^ o) (mask l) ≡ 0) ↔ Clear l w
-mask-clear o [] w t = (λ e. tt, λ z. and_zero_r (w / 2 ^ o))
-mask-clear o (part p n ∷ l) w t =
-    let s = mask_step o p n l w 0 (starts o p _ t) (pow_pos n) (mask-clear (p + n) l w (next o p _ t)) in
-    (λ e. (s.0 e).1, λ z. s.1 (and_zero_r (digits p n w), z))
-mask-clear o (gap p n ∷ l) w t =
-    let s = mask_step o p n l w (2 ^ n - 1) (starts o p _ t) (ones_lt n) (mask-clear (p + n) l w (next o p _ t)) in
-    let d = and_mask (digits p n w) n ∙ mod-eq_of_lt (mod-lt (w / 2 ^ p) (pow_pos n)) in
-    (λ e. (sym d ∙ (s.0 e).0, (s.0 e).1), λ z. s.1 (d ∙ z.0, z.1))
 
 -- the test of the zero bits is the statement
 pub clear_test : (l : List Segment) (w : ℕ) → (clear l w ≡ true) ↔ Clear l w
@@ -157,15 +146,6 @@ clear_test (gap p n ∷ l) w =
           (eqb-true (digits p n w) 0 b.0, h.0 b.1),
       λ z. ap₂ ◌&&◌ (eq-eqb (digits p n w) 0 z.0) (h.1 z.1),
     )
-
--- the mask does that test at once
-pub mask_test : (l : List Segment) (w : ℕ) → T (contiguous 0 l) → eqb (bit_and w (mask l)) 0 ≡ clear l w
-mask_test l w t =
-    let m : (bit_and w (mask l) ≡ 0) ↔ Clear l w =
-    subst (λ (x : ℕ). (bit_and x (mask l) ≡ 0) ↔ Clear l w) (div-one w) (mask-clear 0 l w t) in
-    same (eqb (bit_and w (mask l)) 0) (clear l w)
-    (λ e. (clear_test l w).1 (m.0 (eqb-true (bit_and w (mask l)) 0 e)))
-    (λ e. eq-eqb (bit_and w (mask l)) 0 (m.1 ((clear_test l w).0 e)))
 
 -- ---- a layout with one more field above
 

@@ -1,5 +1,6 @@
 // Parity and two's complement of a 32-bit word. Bit k of a word weighs 2^(k-1).
 #![tactic(auto)]
+
 ghost use Rattle.std.specs.Prelude.{◌≡◌, ◌<◌};
 ghost use Rattle.bits.specs.Fields.{bits};
 ghost use Rattle.bits.specs.Parity.{odd, parity_bit};

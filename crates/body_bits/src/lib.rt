@@ -1,4 +1,6 @@
 // Bits 11 to 31 of a word: what the body of a record writes in them.
+#![tactic(auto)]
+
 ghost use Rattle.std.specs.Prelude.{◌≡◌, ◌+◌, ◌*◌, ◌<◌, ◌/◌, ◌%◌};
 ghost use Rattle.bits.specs.Complement.{complement};
 ghost use Rattle.statuses.specs.Statuses.{binary_code, decimal_code};

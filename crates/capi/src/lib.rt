@@ -1,4 +1,6 @@
 // The functions that other languages call: those of the header include/lampcygnet.h. Each takes any numbers, ends, and promises one answer.
+#![tactic(auto)]
+
 ghost use Rattle.std.specs.Prelude.{◌≡◌};
 ghost use Rattle.decode.specs.Decode.{decode_of};
 ghost use Rattle.pages.specs.Page.{page_of};

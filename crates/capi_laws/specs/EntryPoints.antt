@@ -3,12 +3,13 @@
 -- Assumes nothing.
 use Rattle.std.specs.Prelude.{◌≡◌, refl, Bool, true, false, cond, List, [], ◌∷◌, ◌++◌, ◌↔◌, ℕ, zero, suc, ◌+◌, ◌<◌, ltb, ℤ, pos, length, get_or, drop}
 use Rattle.std.proofs.Common.{sym, ap, subst, ◌∙◌, arith}
-use Rattle.refusals.specs.Numbers.{number_of, refusal_of, refusal_of-number, number-bounds}
+use Rattle.refusals.specs.Numbers.{number_of, refusal_of}
+use Rattle.refusals.proofs.Numbers.{refusal_of-number, number-bounds}
 use Rattle.refusals.specs.declared.Numbered.{Numbered}
 use Rattle.refusals.specs.declared.Refusal.{Refusal}
 use Rattle.records.specs.declared.Record.{Record}
 use Rattle.views.specs.declared.Setting.{Setting}
-use Rattle.labels.specs.Assignment.{document01}
+use Rattle.labels.proofs.Assignment.{document01}
 use Rattle.decode.specs.Decode.{decode_of}
 use Rattle.decode.specs.declared.Decoded.{Decoded}
 use Rattle.pages.specs.Page.{page_when, is_short, page_of}
@@ -37,7 +38,8 @@ use Rattle.fields.specs.Start.{field_bytes}
 use Rattle.fields.specs.declared.FieldKind.{FieldKind}
 use Rattle.sheet.specs.Checked.{checked_of}
 use Rattle.walk.specs.Step.{start_walk, walk_of}
-use Rattle.reader.specs.Fields.{field_in, field_at, walk_gives_at}
+use Rattle.reader.specs.Fields.{field_in, field_at}
+use Rattle.reader.proofs.Fields.{walk_gives_at}
 use Rattle.notes.specs.Note.{NoteText, Text, NoText, note_of}
 use Rattle.contents.specs.Contents.{word_in, figure_in}
 use Rattle.contents.specs.declared.FigureIn.{FigureIn}

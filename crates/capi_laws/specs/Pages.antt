@@ -8,7 +8,7 @@ use Rattle.decode.specs.declared.Decoded.{Decoded}
 use Rattle.measurements.specs.Measurements.{measurement_of}
 use Rattle.pages.specs.Page.{refusal_in, count_in, count_of, page_of}
 use Rattle.pages.specs.Statements.{Fits}
-use Rattle.pages.specs.Theorems.{answered}
+use Rattle.pages.proofs.Theorems.{answered}
 use Rattle.flat_records.specs.Numbers.{flat_numbers, flat_of}
 use Rattle.flat_laws.specs.Refusals.{accepted-number}
 

@@ -1,4 +1,6 @@
 // Which frequencies are legal: the channels of a band and, in VOR and ILS words under nodata, whatever the digits can say.
+#![tactic(auto)]
+
 ghost use Rattle.std.specs.Prelude.{◌≡◌};
 ghost use Rattle.channels.specs.Channels.{is_ils, is_vor, is_mls, is_channel, is_read, must_be_channel, legal_frequency};
 

@@ -1,21 +1,25 @@
 -- What document 01 says of a chart point of two records: which refusal comes first, and what its doubles are.
 -- Assumes nothing.
 use Rattle.std.specs.Prelude.{◌≡◌, refl, Bool, true, false, cond, ◌&&◌, ◌||◌, List, [], ◌∷◌, ◌⊎◌, ◌↔◌, ℕ, eqb, Float}
-use Rattle.std.proofs.Common.{sym, ap, ap₂, ◌∙◌, subst, inl, inr, arith, eqb-true, eq-eqb}
+use Rattle.std.proofs.Common.{sym, ap, ap₂, ◌∙◌, inl, inr, arith, eqb-true, eq-eqb}
 use Rattle.std.proofs.Math.Path.{subst⁻¹}
 use Rattle.std.proofs.lemmas.Bool.{false≢true}
 use Rattle.bits.specs.Laws.{both_true}
-use Rattle.records.specs.All.{place_of, one_place}
+use Rattle.records.specs.All.{place_of}
+use Rattle.records.proofs.All.{one_place}
 use Rattle.records.specs.Kinds.{kind_of}
 use Rattle.records.specs.declared.Body.{Body}
 use Rattle.records.specs.declared.Kind.{Kind}
 use Rattle.records.specs.declared.Record.{Record}
-use Rattle.refusals.specs.Order.{Rule, asks, Answers, Follows, no_rules, kept-one, broken_one, tested, reworded}
+use Rattle.refusals.specs.Order.{Rule, asks, Answers, Follows}
+use Rattle.refusals.proofs.Order.{kept-one, broken_one, tested, reworded}
+use Rattle.refusals.specs.Order.{no_rules}
 use Rattle.refusals.specs.declared.Refusal.{Refusal}
 use Rattle.statuses.specs.declared.Status.{Status}
 use Rattle.doubles.specs.Doubles.{course_of, glide_of}
 use Rattle.readings.specs.Readings.{reading_of, shown_under}
-use Rattle.readings.specs.Meaning.{HasReading, Holds, IsReading, Shows, CountFits, reading_right}
+use Rattle.readings.specs.Meaning.{HasReading, Holds, IsReading, Shows, CountFits}
+use Rattle.readings.proofs.Meaning.{reading_right}
 use Rattle.readings.specs.declared.Reading.{Reading}
 use Rattle.readings.specs.declared.Shown.{Shown}
 use Rattle.chart.specs.Chart.{is_kind, are_course_and_glide, difference_in, difference_of, joined, chart_of}
@@ -127,9 +131,6 @@ chart_follows first second K S R kinds sources readings =
     (λ s.
     reworded charted _ R Refusal.Reach [] _ (readings k)
     (joined_follows (reading_of first.body) (reading_of second.body) (told_course first.body (kinds.0 k).0) (told_glide second.body (kinds.0 k).1))))
-
-pub chart_order : (first second : Record) → Follows charted (record_rules first second) (chart_of first second)
-chart_order first second = chart_follows first second _ _ _ (λ k. k, λ k. k) (λ k. (λ s. s, λ s. s)) (λ k. (λ r. r, λ r. r))
 
 -- ---- the doubles of a point
 

@@ -1,22 +1,24 @@
 // The chart point: the course and glide deviations of two words or records together. The definitions and their laws stand in specs/.
+#![tactic(auto)]
+
 use refusals::Refusal;
 
 // Two deviations in depth difference (document 01's term is a chart point).
-#[derive(Drop)]
+#[derive(Clone, Copy)]
 pub struct ChartPoint {
     pub course: f64,
     pub glide: f64,
 }
 
 // A chart point, or refused.
-#[derive(Drop)]
+#[derive(Clone, Copy)]
 pub enum Charted {
     Point(ChartPoint),
     Refused(Refusal),
 }
 
 // A depth difference, if there is one.
-#[derive(Drop)]
+#[derive(Clone, Copy)]
 pub enum Difference {
     Of(f64),
     Absent,

@@ -1,4 +1,6 @@
 // Words of a known kind whose zero bits are zero: the kind's rules, and what the word holds.
+#![tactic(auto)]
+
 ghost use Rattle.std.specs.Prelude.{◌≡◌, cond, eqb};
 ghost use Rattle.bits.specs.Fields.{bits};
 ghost use Rattle.statuses.specs.Statuses.{binary_status};

@@ -1,6 +1,8 @@
 // Figures coded to words.
+#![tactic(auto)]
+
 ghost use Rattle.std.specs.Prelude.{◌≡◌, ◌≤◌};
-ghost use Rattle.labels.specs.Assignment.{document01};
+ghost use Rattle.labels.proofs.Assignment.{document01};
 ghost use Rattle.encode.specs.Encode.{word_as};
 ghost use Rattle.figures.specs.Coding.{quantity_of, quantity_at, ready_record, coded_under, coded_of};
 ghost use Rattle.figures.specs.Ready.{narrow_bits, wide_bits, ready_bits};

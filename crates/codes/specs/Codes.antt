@@ -3,7 +3,6 @@
 -- Assumes nothing.
 use Rattle.std.specs.Prelude.{◌≡◌, refl, Bool, true, false, ◌||◌, ℕ, zero, suc, ◌≤◌, ◌<◌, eqb}
 use Rattle.std.proofs.Common.{sym, arith, eqb-true, ne_eqb, lit<}
-use Rattle.std.proofs.lemmas.Bool.{false≢true}
 use Rattle.codes.specs.declared.Marker.{Marker}
 use Rattle.codes.specs.declared.Marker.TheVariants.{None, Outer, Middle, Inner}
 use Rattle.codes.specs.declared.Category.{Category}
@@ -92,12 +91,6 @@ unlisted_marker = Inner
 
 abbrev pub unlisted_category : Category
 unlisted_category = III
-
-pub marker_unlisted : (c : ℕ) → marker_listed c ≡ false → marker_of c ≡ unlisted_marker
-marker_unlisted zero h = absurd (false≢true (sym h))
-marker_unlisted (suc zero) h = absurd (false≢true (sym h))
-marker_unlisted (suc (suc zero)) h = absurd (false≢true (sym h))
-marker_unlisted (suc (suc (suc n))) h = refl
 
 -- bits 11 and 12 hold no such number
 pub category_unlisted : (c : ℕ) → 4 ≤ c → category_of c ≡ unlisted_category

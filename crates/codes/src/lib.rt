@@ -1,9 +1,11 @@
 // The codes of a word's fields beside its status: marker, category and flag.
+#![tactic(auto)]
+
 ghost use Rattle.std.specs.Prelude.{◌≡◌, ◌<◌};
 ghost use Rattle.codes.specs.Codes.{marker_of, marker_code, marker_listed, category_of, category_code, flag_bit};
 
 // The marker beacon that a VOR azimuth word reports.
-#[derive(Drop)]
+#[derive(Clone, Copy)]
 pub enum Marker {
     None,
     Outer,
@@ -12,7 +14,7 @@ pub enum Marker {
 }
 
 // The ILS category. `NotStated` is our reading of a code that document 002 prints unreadably.
-#[derive(Drop)]
+#[derive(Clone, Copy)]
 pub enum Category {
     NotStated,
     I,

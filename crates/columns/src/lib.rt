@@ -1,4 +1,6 @@
 // What a line of the listing shows of a record: its status or part, and its figure.
+#![tactic(auto)]
+
 ghost use Rattle.std.specs.Prelude.{◌≡◌};
 ghost use Rattle.columns.specs.Columns.{whole_figure, signed_figure, setting_figure, figure_of, figure_under, status_columns, part_columns, columns_of};
 
@@ -7,7 +9,7 @@ use statuses::Status;
 use views::{Setting, Value, View};
 
 // What stands in the status's place.
-#[derive(Drop)]
+#[derive(Clone, Copy)]
 pub enum Mark {
     Status(Status),
     // a part of the MLS auxiliary data, 1 to 4
@@ -15,7 +17,7 @@ pub enum Mark {
 }
 
 // A number of units of 1/10^places, by its sign and its size, or none (document 01's term is a figure).
-#[derive(Drop)]
+#[derive(Clone, Copy)]
 pub enum Figure {
     Number {
         negative: bool,
@@ -26,7 +28,7 @@ pub enum Figure {
 }
 
 // The two columns that depend on a record's kind.
-#[derive(Drop)]
+#[derive(Clone, Copy)]
 pub struct Columns {
     pub mark: Mark,
     pub figure: Figure,

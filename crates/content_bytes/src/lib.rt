@@ -1,4 +1,6 @@
 // The bytes of a word and of a figure, as the content of a field.
+#![tactic(auto)]
+
 ghost use Rattle.std.specs.Prelude.{◌≡◌};
 ghost use Rattle.bits.specs.Complement.{complement};
 ghost use Rattle.contents.specs.Contents.{word_bytes, figure_bytes};

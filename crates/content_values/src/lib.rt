@@ -1,4 +1,6 @@
 // The word or the figure that the content of a field holds.
+#![tactic(auto)]
+
 ghost use Rattle.std.specs.Prelude.{◌≡◌, [], ◌∷◌, ◌+◌, ◌*◌, ◌^◌};
 ghost use Rattle.bits.specs.Complement.{signed};
 ghost use Rattle.contents.specs.BigEndian.{value_of};

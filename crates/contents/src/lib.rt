@@ -1,4 +1,6 @@
 // What stands in a word field and in a figure field of a sheet: numbers, high byte first.
+#![tactic(auto)]
+
 use refusals::Refusal;
 
 // The content of a word field.

@@ -1,4 +1,6 @@
 // Decimal numbers into a buffer, whole and with places: what fits is stored and all is counted, as in the crate `text`.
+#![tactic(auto)]
+
 ghost use Rattle.std.specs.Prelude.{[], ◌∷◌, ◌++◌, ◌<◌};
 ghost use Rattle.text.specs.Writing.{Writes};
 ghost use Rattle.numerals.specs.Digits.{digit, padded, decimal, pointed, fixed, sign};

@@ -9,7 +9,8 @@ use Rattle.records.specs.declared.Kind.{Kind}
 use Rattle.records.specs.declared.Record.{Record}
 use Rattle.refusals.specs.declared.Refusal.{Refusal}
 use Rattle.labels.specs.Label.{label_of}
-use Rattle.labels.specs.Assignment.{Assignment, document01}
+use Rattle.labels.specs.Assignment.{Assignment}
+use Rattle.labels.proofs.Assignment.{document01}
 use Rattle.labels.specs.declared.Lookup.{Lookup}
 use Rattle.decode.specs.Rules.{Rules, rules, body_of}
 use Rattle.decode.specs.declared.Judgement.{Judgement}
@@ -58,12 +59,6 @@ decode_of w = decode_with document01 w
 
 -- ---- one step of the order at a time
 
-pub digits_broken : (r : Rules) → r.digits ≡ false → judgement r ≡ Judgement.Broken Refusal.Digit
-digits_broken r d = rw d
-
-pub codes_broken : (r : Rules) → r.digits ≡ true → r.codes ≡ false → judgement r ≡ Judgement.Broken Refusal.Code
-codes_broken r d c = rw (d, c)
-
 pub codes_kept : (r : Rules) → r.digits ≡ true → r.codes ≡ true → r.angle ≡ true → judgement r ≡ cond r.value Judgement.Kept (Judgement.Broken Refusal.Value)
 codes_kept r d c a = rw (d, c, a)
 
@@ -72,9 +67,6 @@ zeros_broken k w z = rw z
 
 pub zeros-kept : (k : Kind) (w : ℕ) → clear (word_layout k) w ≡ true → decode_kind k w ≡ decode_clear k w
 zeros-kept k w z = rw z
-
-pub parity_broken : (l : Lookup) (w : ℕ) → odd w ≡ false → decode_as l w ≡ Decoded.Refused Refusal.Parity
-parity_broken l w p = rw p
 
 pub parity_kept : (l : Lookup) (w : ℕ) → odd w ≡ true → decode_as l w ≡ decode_found l w
 parity_kept l w p = rw p

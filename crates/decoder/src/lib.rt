@@ -1,4 +1,6 @@
 // A word to its record, or to its refusal.
+#![tactic(auto)]
+
 ghost use Rattle.std.specs.Prelude.{◌≡◌};
 ghost use Rattle.decode.specs.Decode.{decode_kind, decode_found, decode_as, decode_of};
 

@@ -4,9 +4,10 @@ use Rattle.std.specs.Prelude.{◌≡◌, ◌⊎◌, ◌↔◌}
 use Rattle.records.specs.declared.Body.{Body}
 use Rattle.records.specs.declared.Kind.{Kind}
 use Rattle.statuses.specs.declared.Status.{Status}
-use Rattle.labels.specs.Assignment.{document01}
+use Rattle.labels.proofs.Assignment.{document01}
 use Rattle.readings.specs.Readings.{reading_of}
-use Rattle.readings.specs.Meaning.{HasStatus, HasReading, IsTest, reading_exactly, test_exactly}
+use Rattle.readings.specs.Meaning.{HasStatus, HasReading, IsTest}
+use Rattle.readings.proofs.Meaning.{reading_exactly, test_exactly}
 use Rattle.quantities.specs.Nearest.{millionths_of}
 use Rattle.figures.specs.Coding.{coded_of}
 use Rattle.figures.specs.Demand.{Demand3, Order}

@@ -9,17 +9,21 @@ use Rattle.refusals.specs.Order.{Follows}
 use Rattle.refusals.specs.declared.Refusal.{Refusal}
 use Rattle.records.specs.declared.Record.{Record}
 use Rattle.labels.specs.Label.{label_of}
-use Rattle.labels.specs.Assignment.{Assignment, document01}
+use Rattle.labels.specs.Assignment.{Assignment}
+use Rattle.labels.proofs.Assignment.{document01}
 use Rattle.decode.specs.Decode.{decode_as, decode_of}
 use Rattle.pages.specs.Page.{page_of}
 use Rattle.pages.specs.Statements.{page_rules, filling}
 use Rattle.pages.specs.Theorems as page-theorems
+use Rattle.pages.proofs.Theorems as page-theorems_proofs
 use Rattle.pages.specs.declared.Filled.{Filled}
 use Rattle.encode.specs.Encode.{encode_as, record_label, encode_of}
 use Rattle.chart.specs.Chart.{chart_of}
-use Rattle.chart.specs.Points.{charted, chart_order}
+use Rattle.chart.specs.Points.{charted}
+use Rattle.chart.proofs.Points.{chart_order}
 use Rattle.chart.specs.Points as points
-use Rattle.chart.specs.Words.{chart_point, word_order}
+use Rattle.chart.specs.Words.{chart_point}
+use Rattle.chart.proofs.Words.{word_order}
 use Rattle.chart.specs.Words as chart-words
 use Rattle.quantities.specs.declared.Quantity.{Quantity}
 use Rattle.figures.specs.Coding.{coded_under, coded_of}
@@ -35,11 +39,12 @@ use Rattle.fields.specs.declared.FieldKind.{FieldKind}
 use Rattle.fields.specs.Grammar.{Bytes}
 use Rattle.fields.specs.Rules.{field_rules, sheet_rules, inside_rules}
 use Rattle.fields.specs.Answers.{started}
-use Rattle.fields.specs.RulesLemmas.{start_follows}
+use Rattle.fields.proofs.RulesLemmas.{start_follows}
 use Rattle.fields.specs.Run.{sheet_of, inside_of}
 use Rattle.fields.specs.Start.{start_of}
 use Rattle.sheet.specs.Checked.{checked_of, field_of}
-use Rattle.walk.specs.Step.{start_walk, step_of}
+use Rattle.walk.specs.Step.{start_walk}
+use Rattle.walk.specs.Step.{step_of}
 use Rattle.walk.specs.Walked.{after}
 use Rattle.notes.specs.Note.{note_of}
 use Rattle.totals.specs.Totals.{totals_of}
@@ -119,8 +124,8 @@ pub demand1 : Demand1
 demand1 = record {
   word = judgement.word_order document01;
   word_as_lem = judgement.word_order;
-  page = page-theorems.follows;
-  page_untouched = page-theorems.untouched;
+  page = page-theorems_proofs.follows;
+  page_untouched = page-theorems_proofs.untouched;
   «record» = λ r. record_follows (record_label document01 r) r;
   record_as = record_follows_as;
   figure = figure_follows;

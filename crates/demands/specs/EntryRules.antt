@@ -9,7 +9,7 @@ use Rattle.refusals.specs.Order.{Rule, asks, Answers}
 use Rattle.refusals.specs.declared.Refusal.{Refusal}
 use Rattle.records.specs.declared.Record.{Record}
 use Rattle.labels.specs.Label.{label_of}
-use Rattle.labels.specs.Assignment.{document01}
+use Rattle.labels.proofs.Assignment.{document01}
 use Rattle.encode.specs.declared.Encoded.{Encoded}
 use Rattle.quantities.specs.Statements.{Beyond}
 use Rattle.quantities.specs.declared.Quantity.{Quantity}

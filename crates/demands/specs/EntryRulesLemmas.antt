@@ -7,23 +7,27 @@ use mathlib.Core.List.{List, [], ◌∷◌, Memᴰ}
 use Rattle.std.proofs.lemmas.Bool.{eqb-false}
 use Rattle.bits.specs.Fields.{bits}
 use Rattle.bits.specs.Parity.{odd}
-use Rattle.refusals.specs.Order.{Rule, asks, Follows, no_rules, kept-first, broken_first, kept-one, broken_one, tested}
+use Rattle.refusals.specs.Order.{Rule, asks, Follows}
+use Rattle.refusals.proofs.Order.{kept-first, broken_first, kept-one, broken_one, tested}
+use Rattle.refusals.specs.Order.{no_rules}
 use Rattle.refusals.specs.declared.Refusal.{Refusal}
 use Rattle.records.specs.declared.Kind.{Kind}
 use Rattle.records.specs.declared.Record.{Record}
 use Rattle.labels.specs.Label.{label_of}
-use Rattle.labels.specs.Assignment.{document01}
+use Rattle.labels.proofs.Assignment.{document01}
 use Rattle.encode.specs.Encode.{codes_listed, values_legal, word_as, encode_under, encode_as}
 use Rattle.encode.specs.declared.Encoded.{Encoded}
 use Rattle.quantities.specs.Nearest.{nearest_count}
 use Rattle.quantities.specs.Statements.{Beyond}
 use Rattle.quantities.specs.Theorems as quantities
+use Rattle.quantities.proofs.Theorems as quantities_proofs
 use Rattle.quantities.specs.declared.Nearest.{Nearest}
 use Rattle.quantities.specs.declared.Quantity.{Quantity}
 use Rattle.figures.specs.Coding.{label_for, quantity_at, coded_nearest, coded_under, coded_measured, coded_of}
 use Rattle.figures.specs.Words.{quantity_of_label, unmeasured}
 use Rattle.figures.specs.declared.Measured.{Measured}
-use Rattle.reassembly_parts.specs.Sequence.{InSequence, sequence, in_sequence}
+use Rattle.reassembly_parts.specs.Sequence.{InSequence, sequence}
+use Rattle.reassembly_parts.proofs.Sequence.{in_sequence}
 use Rattle.reassembly_parts.specs.Take.{take_of}
 use Rattle.reassembly_parts.specs.declared.Answer.{Answer}
 use Rattle.reassembly_parts.specs.declared.Part.{Part}
@@ -39,14 +43,15 @@ use Rattle.contents.specs.Contents.{word_in, figure_in}
 use Rattle.fields.specs.declared.FieldKind.{FieldKind}
 use Rattle.fields.specs.Grammar.{Bytes}
 use Rattle.fields.specs.Answers.{scanned}
-use Rattle.fields.specs.Judged.{sheet_order, inside_order}
+use Rattle.fields.proofs.Judged.{sheet_order, inside_order}
 use Rattle.fields.specs.Rules.{sheet_rules, inside_rules}
 use Rattle.fields.specs.Run.{Field, Scan, Fields, Refused, sheet_limit, sheet_of, inside_of}
 use Rattle.sheet.specs.Checked.{checked_of}
 use Rattle.walk.specs.Step.{start_walk}
 use Rattle.walk.specs.Step as walk
 use Rattle.walk.specs.Walked.{after}
-use Rattle.reader.specs.Fields.{field_in, field_at, walk_gives_at}
+use Rattle.reader.specs.Fields.{field_in, field_at}
+use Rattle.reader.proofs.Fields.{walk_gives_at}
 use Rattle.notes.specs.Note.{Text, NoText, is_note, note_in, note_of}
 use Rattle.notes.specs.Place.{note_by_place}
 use Rattle.totals.specs.Totals.{totals_of}
@@ -86,10 +91,10 @@ figure_follows_as q label source figure =
     by (Nearest.Count c) e =
         let w : Encoded = coded_nearest q label source (Nearest.Count c) in
         let within : Beyond q figure → ⊥ = λ b.
-        let out : Nearest.Count c ≡ Nearest.OutOfReach = sym e ∙ (quantities.refused q figure).1 b in
+        let out : Nearest.Count c ≡ Nearest.OutOfReach = sym e ∙ (quantities_proofs.refused q figure).1 b in
         let z : ◌≡◌ {A = ℕ} 0 1 = cc in omega arith in
         kept-one encoded (Beyond q figure → ⊥) Refusal.Reach [] w within (no_rules encoded w (_, refl))
-    by Nearest.OutOfReach e = broken_one encoded (Beyond q figure → ⊥) Refusal.Reach [] (λ n. n ((quantities.refused q figure).0 e))
+    by Nearest.OutOfReach e = broken_one encoded (Beyond q figure → ⊥) Refusal.Reach [] (λ n. n ((quantities_proofs.refused q figure).0 e))
 
 module _ (label source : ℕ) (figure : ℤ) where
   -- a label stands for one quantity only
@@ -102,11 +107,11 @@ module _ (label source : ℕ) (figure : ℤ) where
   reach_follows q own (Nearest.Count c) e =
       let w : Encoded = coded_nearest q label source (Nearest.Count c) in
       let within : (p : Quantity) → label ≡ label_for document01 p → Beyond p figure → ⊥ = λ p f b.
-      let out : Nearest.Count c ≡ Nearest.OutOfReach = sym e ∙ (quantities.refused q figure).1 (subst (λ (x : Quantity). Beyond x figure) (one_quantity p q f own) b) in
+      let out : Nearest.Count c ≡ Nearest.OutOfReach = sym e ∙ (quantities_proofs.refused q figure).1 (subst (λ (x : Quantity). Beyond x figure) (one_quantity p q f own) b) in
       let z : ◌≡◌ {A = ℕ} 0 1 = cc in omega arith in
       kept-first encoded (reach_rule label figure) [] w within (λ f b. within b.0 b.1 b.2) (no_rules encoded w (_, refl))
   reach_follows q own Nearest.OutOfReach e =
-      let far : Beyond q figure = (quantities.refused q figure).0 e in
+      let far : Beyond q figure = (quantities_proofs.refused q figure).0 e in
       broken_first encoded (reach_rule label figure) [] Refusal.Reach (λ k. k q own far) (q, own, far, refl) (λ g b. b.3)
 
   measured_follows : (q : Quantity) → label ≡ label_for document01 q → Follows encoded (asks (source ≤ 3) Refusal.Code ∷ reach_rule label figure ∷ []) (coded_under q label source figure)

@@ -4,13 +4,14 @@
 use Rattle.std.specs.Prelude.{◌≡◌, ◌⊎◌, ℕ, ◌≤◌, ℤ}
 use Rattle.std.proofs.Common.{sym, subst, ◌∙◌, inl, inr, arith}
 use Rattle.refusals.specs.declared.Refusal.{Refusal}
-use Rattle.labels.specs.Assignment.{document01}
+use Rattle.labels.proofs.Assignment.{document01}
 use Rattle.encode.specs.declared.Encoded.{Encoded}
 use Rattle.quantities.specs.Nearest.{millionths_of}
 use Rattle.quantities.specs.declared.Quantity.{Quantity}
 use Rattle.figures.specs.Coding.{label_for, ready_record, coded_of}
 use Rattle.figures.specs.Demand.{Demand3, Order, ReadyWord, count_bits}
-use Rattle.figures.specs.Theorems.{demand3_of, order_of}
+use Rattle.figures.specs.Theorems.{order_of}
+use Rattle.figures.proofs.Theorems.{demand3_of}
 use Rattle.demands.specs.Allowed.{Allowed}
 use Rattle.demands.specs.Holds.{Holds}
 use Rattle.demands.specs.Words.{demand2}

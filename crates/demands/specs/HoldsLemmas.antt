@@ -7,7 +7,8 @@ use Rattle.std.proofs.lemmas.Nat.{mod-pow-add}
 use Rattle.rounding.specs.Parts.{positive_add, negative-add, positive_neg, negative_neg, parts-equal}
 use Rattle.bits.specs.Fields.{bits, digits}
 use Rattle.bits.specs.Complement as complement
-use Rattle.statuses.specs.Statuses.{binary_code, binary_status, decimal_code, decimal_status, binary_code_lem, binary_status_lem, decimal_status_lem}
+use Rattle.statuses.specs.Statuses.{binary_code, binary_status, decimal_code, decimal_status, decimal_status_lem}
+use Rattle.statuses.proofs.Statuses.{binary_code_lem, binary_status_lem}
 use Rattle.codes.specs.Codes.{marker_code, marker_of, category_code, category_of, flag_bit, marker_of_lem, category_code_lem, category_of_lem, flag-bit, flag-of}
 use Rattle.codes.specs.declared.Category.{Category}
 use Rattle.codes.specs.declared.Marker.{Marker}

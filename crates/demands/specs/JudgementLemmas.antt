@@ -10,7 +10,9 @@ use Rattle.records.specs.Layouts.{word_layout}
 use Rattle.records.specs.declared.Kind.{Kind}
 use Rattle.records.specs.declared.Record.{Record}
 use Rattle.refusals.specs.Order as order
-use Rattle.refusals.specs.Order.{Rule, Follows, AllKept, no_rules, kept-one, broken_one, tested}
+use Rattle.refusals.specs.Order.{Rule, Follows, AllKept}
+use Rattle.refusals.proofs.Order.{kept-one, broken_one, tested}
+use Rattle.refusals.specs.Order.{no_rules}
 use Rattle.refusals.specs.declared.Refusal.{Refusal}
 use Rattle.labels.specs.Label.{label_of}
 use Rattle.labels.specs.Assignment.{Assignment}

@@ -9,7 +9,8 @@ use Rattle.fields.specs.declared.FieldKind.{FieldKind}
 use Rattle.fields.specs.Grammar.{Bytes}
 use Rattle.fields.specs.Run.{Field, Fields, sheet_of}
 use Rattle.notes.specs.Note.{NoteText, Text, NoText, note_of, text_of}
-use Rattle.notes.specs.Place.{Lies, note_by_place, text_lies}
+use Rattle.notes.specs.Place.{Lies, note_by_place}
+use Rattle.notes.proofs.Place.{text_lies}
 use Rattle.demands.specs.EntryRules.{note_rules, noted}
 use Rattle.demands.specs.EntryRulesLemmas.{note_follows}
 

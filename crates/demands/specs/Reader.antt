@@ -5,9 +5,13 @@ use mathlib.Core.List.{List, map, Memᴰ}
 use Rattle.refusals.specs.declared.Refusal.{Refusal}
 use Rattle.fields.specs.Run.{Field, Fields, Refused, sheet_of}
 use Rattle.walk.specs.declared.Given.{Given}
-use Rattle.walk.specs.Step.{start_walk, step_of}
-use Rattle.walk.specs.Walked.{InSheet, after, given_of, walked, walk_gives, walk_ends, walk_refused, content_in_sheet}
-use Rattle.reader.specs.Fields.{field_at, walk_gives_at}
+use Rattle.walk.specs.Step.{start_walk}
+use Rattle.walk.specs.Step.{step_of}
+use Rattle.walk.specs.Walked.{InSheet, given_of}
+use Rattle.walk.specs.Walked.{after, walked}
+use Rattle.walk.proofs.Walked.{walk_gives, walk_ends, walk_refused, content_in_sheet}
+use Rattle.reader.specs.Fields.{field_at}
+use Rattle.reader.proofs.Fields.{walk_gives_at}
 
 -- "A reader that walks a sheet field by field serves the programs:" `walked n s w` are the answers of n steps of a walk from w on, and `after n s w` is where they lead.
 pub record Reader : Type 0 where

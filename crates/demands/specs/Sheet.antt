@@ -6,15 +6,18 @@ use Rattle.bits.specs.Complement.{Holds}
 use Rattle.refusals.specs.Order.{Follows}
 use Rattle.refusals.specs.declared.Refusal.{Refusal}
 use Rattle.contents.specs.BigEndian as contents
-use Rattle.contents.specs.Contents.{word_bytes, figure_bytes, word_in, figure_in, word_read, word-only, figure_read, figure_only}
+use Rattle.contents.specs.Contents.{word_bytes, figure_bytes, word_in, figure_in}
+use Rattle.contents.proofs.Contents.{word_read, word-only, figure_read, figure_only}
 use Rattle.contents.specs.declared.FigureIn.{FigureIn}
 use Rattle.contents.specs.declared.WordIn.{WordIn}
 use Rattle.fields.specs.declared.FieldKind.{FieldKind}
-use Rattle.fields.specs.Grammar.{Trees, no_more, leaf, group, bytes_of, fields_of, Bytes, no_byte, Allowed, no_more_allowed, leaf_allowed, group_allowed, WrittenBy, sheet_written, written_sheet}
+use Rattle.fields.specs.Grammar.{Trees, no_more, leaf, group, bytes_of, fields_of, Bytes, no_byte, Allowed, no_more_allowed, leaf_allowed, group_allowed, WrittenBy}
+use Rattle.fields.proofs.Grammar.{sheet_written, written_sheet}
 use Rattle.fields.specs.Answers.{scanned}
-use Rattle.fields.specs.Judged.{sheet_order}
-use Rattle.fields.specs.Judged as judged
+use Rattle.fields.proofs.Judged.{sheet_order}
+use Rattle.fields.proofs.Judged as judged
 use Rattle.fields.specs.Limits as limits
+use Rattle.fields.proofs.Limits as limits_proofs
 use Rattle.fields.specs.Rules.{RefusedAt, sheet_rules}
 use Rattle.fields.specs.Run.{Field, Scan, Fields, Refused, sheet_of}
 use Rattle.fields.specs.Start.{tag_of, length_allowed}
@@ -58,5 +61,5 @@ sheet = record {
   empty_note = sheet_written (leaf FieldKind.Note [] no_more) (leaf_allowed {k = FieldKind.Note} {c = []} {ts = no_more} refl refl (lit< tt) no_byte no_more_allowed) (lit≤ tt);
   order = sheet_order;
   one_refusal = λ s f g q r a b. judged.one_refusal a b;
-  offset = limits.offset-inside;
+  offset = limits_proofs.offset-inside;
 }

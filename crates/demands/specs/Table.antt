@@ -6,7 +6,7 @@ use Rattle.bits.specs.Layout.{Segment, part, gap}
 use Rattle.records.specs.All.{kinds, agree}
 use Rattle.records.specs.Layouts.{layout}
 use Rattle.records.specs.declared.Kind.{Kind}
-use Rattle.labels.specs.Assignment.{document01}
+use Rattle.labels.proofs.Assignment.{document01}
 use Rattle.labels.specs.Table.{row_of}
 use Rattle.demands.specs.Holds.{number}
 

@@ -14,7 +14,7 @@ use Rattle.codes.specs.Codes.{marker_of, marker_listed, marker_code_lem}
 use Rattle.frequencies.specs.Frequencies.{mls_tens, vhf_range, frequency_in}
 use Rattle.channels.specs.Raster.{IlsChannel, VorChannel, MlsChannel, Under}
 use Rattle.channels.specs.Channels.{is_mls}
-use Rattle.channels.specs.RasterLaws.{vor_legal, ils_legal, mls_test}
+use Rattle.channels.proofs.RasterLaws.{vor_legal, ils_legal, mls_test}
 use Rattle.frequencies.specs.declared.Band.{Band}
 use Rattle.records.specs.declared.Kind.{Kind}
 use Rattle.codes.specs.declared.Marker.{Marker}

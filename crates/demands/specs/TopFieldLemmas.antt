@@ -4,15 +4,19 @@ use Rattle.std.specs.Prelude.{◌≡◌, refl, Bool, true, false, cond, List, []
 use Rattle.std.proofs.Common.{sym, ap, ap₂, ◌∙◌, inl, inr, le_refl, arith, ltb-true, ltb-false, length-take-le, take_all, take-take}
 use Rattle.std.proofs.Math.Path.{subst⁻¹}
 use Rattle.std.proofs.Math.Seq.{drop-length}
-use Rattle.refusals.specs.Order.{Follows, no_rules, kept-first, broken_first}
+use Rattle.refusals.specs.Order.{Follows}
+use Rattle.refusals.proofs.Order.{kept-first, broken_first}
+use Rattle.refusals.specs.Order.{no_rules}
 use Rattle.refusals.specs.declared.Refusal.{Refusal}
 use Rattle.fields.specs.declared.Start.{Start}
 use Rattle.fields.specs.declared.TagLookup.{TagLookup}
-use Rattle.fields.specs.Grammar.{fields_of, Bytes, bytes_take, bytes_drop, written_legal, legal_written}
+use Rattle.fields.specs.Grammar.{fields_of, Bytes, bytes_take, bytes_drop}
+use Rattle.fields.proofs.Grammar.{written_legal, legal_written}
 use Rattle.fields.specs.Answers.{scanned, never}
-use Rattle.fields.specs.Laws.{StartView, at_end, refused, header, start_view, run_step}
+use Rattle.fields.specs.Laws.{StartView, at_end, refused, header}
+use Rattle.fields.proofs.Laws.{start_view, run_step}
 use Rattle.fields.specs.Rules.{length_in}
-use Rattle.fields.specs.RulesLemmas.{refused_so, refused-only_so}
+use Rattle.fields.proofs.RulesLemmas.{refused_so, refused-only_so}
 use Rattle.fields.specs.Run.{Field, Scan, Fields, Refused, ◌and_then◌, inside, step, run_of}
 use Rattle.fields.specs.Start.{kind_of_tag, length_allowed, depth_allowed, judged, start_of}
 use Rattle.sheet.specs.Checked.{checked_of, after_inside, field_from, field_of}

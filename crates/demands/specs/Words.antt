@@ -17,12 +17,15 @@ use Rattle.labels.specs.declared.Lookup.{Lookup}
 use Rattle.decode.specs.Rules.{body_of}
 use Rattle.decode.specs.Decode.{record_of, decode_with}
 use Rattle.decode.specs.declared.Decoded.{Decoded}
-use Rattle.encode.specs.Encode.{codes_listed, word_of, encode_with, codes_broken, values_broken, all_legal_lem}
+use Rattle.encode.specs.Encode.{codes_listed, word_of, encode_with, values_broken, all_legal_lem}
+use Rattle.encode.proofs.Encode.{codes_broken}
 use Rattle.encode.specs.declared.Encoded.{Encoded}
 use Rattle.roundtrip.specs.Reading.{accepted}
-use Rattle.roundtrip.specs.RoundTrip.{Written, written, decode-encode, encode-decode}
+use Rattle.roundtrip.specs.RoundTrip.{Written, written, decode-encode}
+use Rattle.roundtrip.proofs.RoundTrip.{encode-decode}
 use Rattle.readings.specs.Readings.{reading_of}
-use Rattle.readings.specs.Meaning.{HasReading, IsTest, reading_exactly, test_exactly}
+use Rattle.readings.specs.Meaning.{HasReading, IsTest}
+use Rattle.readings.proofs.Meaning.{reading_exactly, test_exactly}
 use Rattle.demands.specs.Holds.{Holds, StatusIs}
 use Rattle.demands.specs.HoldsLemmas.{holds, only, label_bits, source_bits, status_says}
 use Rattle.demands.specs.Allowed.{Allowed}

@@ -9,9 +9,10 @@ use Rattle.fields.specs.Grammar.{Bytes}
 use Rattle.fields.specs.Moved.{moved_field}
 use Rattle.fields.specs.Run.{Field, Fields, sheet_of, inside_of}
 use Rattle.fields.specs.Start.{field_bytes}
-use Rattle.writer.specs.Added.{word_added, figure_added, note_added, group_added}
+use Rattle.writer.proofs.Added.{word_added, figure_added, note_added, group_added}
 use Rattle.writer.specs.Answers.{ends}
-use Rattle.writer.specs.Buffer.{unchanged, up_to_end, same_length, outside, group_written, group_unchanged}
+use Rattle.writer.specs.Buffer.{unchanged, group_written, group_unchanged}
+use Rattle.writer.proofs.Buffer.{up_to_end, same_length, outside}
 use Rattle.writer.specs.Write.{Write, write_of, group_of}
 use Rattle.writer.specs.declared.Written.{Written}
 use Rattle.demands.specs.EntryRules.{write_rules, group_rules, written}

@@ -4,7 +4,7 @@ use Rattle.std.specs.Prelude.{◌≡◌, refl, true, false, ◌&&◌, ◌↔◌,
 use Rattle.std.proofs.Common.{sym, ap, ◌∙◌, true≢false, arith, lt-ltb, ltb-true, le→leb, leb→le}
 use Rattle.std.specs.Int.Signed.{mag}
 use Rattle.statuses.specs.Statuses.{decimal_code, decimal_listed}
-use Rattle.channels.specs.RasterLaws.{vor_legal, ils_legal, mls_legal}
+use Rattle.channels.proofs.RasterLaws.{vor_legal, ils_legal, mls_legal}
 use Rattle.records.specs.declared.Body.{Body}
 use Rattle.records.specs.declared.Record.{Record}
 use Rattle.statuses.specs.declared.Status.{Status}

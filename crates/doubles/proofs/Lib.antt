@@ -1,1 +1,4 @@
 pub mod Count
+pub mod Exact
+pub mod Doubles
+pub mod Rounded

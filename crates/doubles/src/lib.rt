@@ -1,4 +1,6 @@
 // The doubles of readings: a count as degrees, as depth difference or as millivolts, in f64.
+#![tactic(auto)]
+
 ghost use Rattle.std.specs.Prelude.{◌≡◌, pos, ◌*ℤ◌};
 ghost use Rattle.doubles.specs.Exact.{IsExactly};
 ghost use Rattle.doubles.specs.Nearest.{IsNearest};

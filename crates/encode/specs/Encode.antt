@@ -14,7 +14,8 @@ use Rattle.records.specs.declared.Body.{Body}
 use Rattle.records.specs.declared.Record.{Record}
 use Rattle.refusals.specs.declared.Refusal.{Refusal}
 use Rattle.labels.specs.Label.{label_of}
-use Rattle.labels.specs.Assignment.{Assignment, document01}
+use Rattle.labels.specs.Assignment.{Assignment}
+use Rattle.labels.proofs.Assignment.{document01}
 use Rattle.encode.specs.Fields.{fields_of, status_bits}
 use Rattle.encode.specs.declared.Encoded.{Encoded}
 
@@ -102,9 +103,6 @@ abbrev pub encode_of : Record → Encoded
 encode_of r = encode_with document01 r
 
 -- ---- one step of the order at a time
-
-pub codes_broken : (a : Assignment) (r : Record) → (leb r.source 3 && codes_listed r.body) ≡ false → encode_with a r ≡ Encoded.Refused Refusal.Code
-codes_broken a r c = rw c
 
 pub values_broken : (a : Assignment) (r : Record) → (leb r.source 3 && codes_listed r.body) ≡ true → values_legal r.body ≡ false → encode_with a r ≡ Encoded.Refused Refusal.Value
 values_broken a r c v = rw (c, v)

@@ -1,4 +1,6 @@
 // A record to its word, or to its refusal.
+#![tactic(auto)]
+
 ghost use Rattle.std.specs.Prelude.{◌≡◌, true, ◌<◌};
 ghost use Rattle.statuses.specs.Statuses.{decimal_code, decimal_listed};
 ghost use Rattle.encode.specs.Encode.{codes_listed, narrow, wide, values_legal, word_as, encode_as, encode_of};

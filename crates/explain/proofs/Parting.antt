@@ -7,7 +7,7 @@ use native.Mathlib.Omega.{arith}
 use lib.ListN.{length, take, drop, length-append}
 use lib.Seq.{take-take, length-take-le, take-append_seam, drop-append_seam}
 use Rattle.text_lines.specs.Lines.{whole_lines, begun_line}
-use Rattle.text_lines.specs.LineLaws.{whole_begun}
+use Rattle.text_lines.proofs.LineLaws.{whole_begun}
 
 module _ (b : List ℕ) (filled whole : ℕ) (h : filled ≤ length b) (e : whole ≡ length (whole_lines (take filled b))) where
   sum : length (whole_lines (take filled b)) + length (begun_line (take filled b)) ≡ filled

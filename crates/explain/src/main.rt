@@ -1,4 +1,5 @@
 // Explains the words and figures that are typed on standard input, one of each to a line, to standard output.
+#![tactic(auto)]
 ghost use Rattle.std.specs.Prelude.{◌≡◌, ◌-◌, ◌≤◌, min, length, take, drop};
 ghost use Rattle.io.specs.Counts.{IsPrefixLen};
 ghost use Rattle.text_lines.specs.Lines.{lines_of, whole_lines, begun_line};
@@ -6,12 +7,12 @@ ghost use Rattle.line_answers.specs.LineAnswers.{progress_of, answers_text, text
 ghost use Rattle.line_answers.specs.Pieces.{kept};
 
 use explain_texts::AnsweredLines;
-use libc::STDOUT_FILENO;
 use line_answers::Progress;
 use standard_input::Chunk;
+use std::io::Read;
 
 // What a piece of the input gives.
-#[derive(Drop)]
+#[derive(Clone, Copy)]
 struct Answered {
     // the progress behind its whole lines
     after: Progress,
@@ -22,7 +23,7 @@ struct Answered {
 }
 
 // Where a run stands.
-#[derive(Drop)]
+#[derive(Clone, Copy)]
 struct State {
     going: bool,
     begun: usize,
@@ -97,40 +98,48 @@ fn answer_piece(buffer: &mut [u8], filled: usize, before: Progress, text: &mut [
 }
 
 // Writes answers to standard output, or says that they cannot be written. Whether they were.
-fn write_answers(name: &[u8], answers: &[u8]) -> bool {
-    let written = io::write_all(STDOUT_FILENO, answers);
+fn write_answers(out: &impl Print, err: &impl Print, name: &[u8], answers: &[u8]) -> bool {
+    let written = out.write_all(answers).is_ok();
     if !written {
-        standard_streams::say_unwritten(name);
+        standard_streams::say_unwritten(err, name);
     }
     written
 }
 
 // Reads once, and answers what is whole of it; at the end the last line and the totals.
-fn read_on(name: &[u8], buffer: &mut [u8], state: State, text: &mut [u8]) -> State
+fn read_on(
+    out: &impl Print,
+    err: &impl Print,
+    input: &mut impl Read,
+    name: &[u8],
+    buffer: &mut [u8],
+    state: State,
+    text: &mut [u8],
+) -> State
     requires { (state.begun ≤ 202) × (4352 ≡ length buffer.old) × (278592 ≡ length text.old) }
     ensures { result.begun ≤ 202 }
 {
     let begun = state.begun;
     let progress = state.progress;
-    match standard_input::read_chunk(&mut buffer[begun..]) {
+    match standard_input::read_chunk(input, &mut buffer[begun..]) {
         Chunk::Bytes(count) => {
             let answered = answer_piece(buffer, begun + count, progress, text);
             let length = answered.length;
             let after = answered.after;
             State {
-                going: write_answers(name, &text[..length]),
+                going: write_answers(out, err, name, &text[..length]),
                 begun: answered.begun,
                 progress: after,
             }
         }
         Chunk::End => {
             let length = put_end(&buffer[..begun], progress, text);
-            standard_streams::write_text(name, &text[..length]);
+            standard_streams::write_text(out, err, name, &text[..length]);
             stopped(progress)
         }
         Chunk::Interrupted => state,
         Chunk::Failed => {
-            standard_streams::say_unread(name);
+            standard_streams::say_unread(err, name);
             stopped(progress)
         }
     }
@@ -148,7 +157,7 @@ fn stopped(progress: Progress) -> State
 }
 
 // Answers standard input. Nothing says that an input ends: the turns are counted down from a number that no run uses up.
-fn explain_input(name: &[u8]) {
+fn explain_input(out: &impl Print, err: &impl Print, input: &mut impl Read, name: &[u8]) {
     let mut buffer = [0u8; 4352];
     let mut text = [0u8; 278592];
     let mut state = State {
@@ -165,7 +174,7 @@ fn explain_input(name: &[u8]) {
     };
     let mut turns = u64::MAX;
     while 0 < turns {
-        state = read_on(name, &mut buffer, state, &mut text);
+        state = read_on(out, err, input, name, &mut buffer, state, &mut text);
         if !state.going {
             return;
         }
@@ -173,11 +182,12 @@ fn explain_input(name: &[u8]) {
     }
 }
 
-fn main() {
+fn main(rt: HostRuntime) {
+    let err = rt.stderr();
     let name = b"lampcygnet-explain";
-    if os::arg_count() > 1 {
-        standard_streams::say_usage(name, b"LINES");
+    if standard_streams::has_argument(&rt, 1) {
+        standard_streams::say_usage(&err, name, b"LINES");
         return;
     }
-    explain_input(name);
+    explain_input(&rt, &err, &mut rt.stdin(), name);
 }

@@ -12,7 +12,7 @@ use reasons::Reason;
 use typed_pairs::TypedLine;
 
 // Where an answer ends, and what its line is counted as.
-#[derive(Drop)]
+#[derive(Clone, Copy)]
 pub struct Answered {
     pub next: usize,
     pub outcome: Outcome,

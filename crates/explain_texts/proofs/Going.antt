@@ -10,11 +10,12 @@ use lib.ListN.{length, take, drop, length-drop, drop_of_length-le}
 use lib.Seq.{take_all, drop-drop}
 use Rattle.typed_texts.specs.Texts.{text_before, text_behind}
 use Rattle.typed_texts.specs.TextLaws.{behind_shorter}
-use Rattle.text.specs.Writing.{last, Writes, named, joined, empty}
+use Rattle.text.specs.Writing.{last, Writes, named, empty}
+use Rattle.text.proofs.Writing.{joined}
 use Rattle.answers.specs.Answers.{answer_text, outcome_of}
 use Rattle.line_answers.specs.declared.Progress.{Progress}
 use Rattle.text_lines.specs.Lines.{lines_of}
-use Rattle.text_lines.specs.LineLaws.{by_lines}
+use Rattle.text_lines.proofs.LineLaws.{by_lines}
 use Rattle.line_answers.specs.LineAnswers.{one_more, counted, progress_of, answers_text}
 use Rattle.explain_texts.specs.declared.AnsweredLines.{AnsweredLines}
 

@@ -47,7 +47,7 @@ fn count(before: Progress, outcome: Outcome) -> Progress
 }
 
 // The answers to lines in a row.
-#[derive(Drop)]
+#[derive(Clone, Copy)]
 pub struct AnsweredLines {
     // the progress behind these lines
     pub after: Progress,

@@ -3,7 +3,8 @@
 -- Assumes nothing.
 use Rattle.std.specs.Prelude.{Bool, cond, ℕ, ℤ}
 use Rattle.refusals.specs.declared.Refusal.{Refusal}
-use Rattle.labels.specs.Assignment.{Assignment, document01}
+use Rattle.labels.specs.Assignment.{Assignment}
+use Rattle.labels.proofs.Assignment.{document01}
 use Rattle.decode.specs.Decode.{decode_with}
 use Rattle.decode.specs.declared.Decoded.{Decoded}
 use Rattle.quantities.specs.Nearest.{nearest_count}

@@ -3,7 +3,9 @@
 use Rattle.std.specs.Prelude.{◌≡◌, refl, Bool, true, false, [], ◌∷◌, ◌↔◌, ℕ, T, ℤ}
 use Rattle.std.proofs.Common.{sym, ap, subst, ◌∙◌, arith}
 use Rattle.records.specs.declared.Record.{Record}
-use Rattle.refusals.specs.Order.{Follows, AllKept, asks, no_rules, kept-one, broken_one, kept-first, broken_first}
+use Rattle.refusals.specs.Order.{Follows, AllKept, asks}
+use Rattle.refusals.proofs.Order.{kept-one, broken_one, kept-first, broken_first}
+use Rattle.refusals.specs.Order.{no_rules}
 use Rattle.refusals.specs.declared.Refusal.{Refusal}
 use Rattle.labels.specs.Assignment.{Assignment}
 use Rattle.labels.specs.Label.{label_of}
@@ -21,7 +23,7 @@ use Rattle.agreements.specs.Agreeing.{held, accepted-held, agrees-tested}
 use Rattle.signed_numbers.specs.Signed.{Fits}
 use Rattle.reasons.specs.Reasons.{Told}
 use Rattle.reasons.specs.Scaled.{reason_of}
-use Rattle.reasons.specs.Theorems.{told_exactly}
+use Rattle.reasons.proofs.Theorems.{told_exactly}
 use Rattle.reasons.specs.declared.Reason.{Reason}
 use Rattle.explanations.specs.declared.Explained.{Explained}
 use Rattle.explanations.specs.Explanations.{held_under, held_in, count_agrees, explained_by, explained_with}

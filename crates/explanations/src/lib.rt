@@ -4,14 +4,14 @@ use reasons::Reason;
 use refusals::Refusal;
 
 // What a word holds that a figure is compared with: the count of its quantity, where it has a reading.
-#[derive(Drop)]
+#[derive(Clone, Copy)]
 pub enum Held {
     Count(Quantity, i16),
     Refused(Refusal),
 }
 
 // Why a figure and a word agree or do not.
-#[derive(Drop)]
+#[derive(Clone, Copy)]
 pub enum Explained {
     Because(Reason),
     Refused(Refusal),

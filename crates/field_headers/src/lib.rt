@@ -1,4 +1,6 @@
 // The header of a field: a tag of one byte and a length of two, high byte first.
+#![tactic(auto)]
+
 ghost use Rattle.std.specs.Prelude.{◌≡◌, drop};
 ghost use Rattle.fields.specs.Start.{tag_of, kind_of_tag, length_allowed, depth_allowed, judged, start_of};
 

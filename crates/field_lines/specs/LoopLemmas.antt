@@ -9,11 +9,15 @@ use Rattle.walk.specs.declared.Walk.{Walk}
 use Rattle.walk.specs.declared.FieldAt.{FieldAt}
 use Rattle.walk.specs.declared.Given.{Given}
 use Rattle.walk.specs.declared.WalkStep.{WalkStep}
-use Rattle.walk.specs.Step.{start_walk, step_of}
+use Rattle.walk.specs.Step.{start_walk}
+use Rattle.walk.specs.Step.{step_of}
 use Rattle.walk.specs.Rest.{field_of}
-use Rattle.walk.specs.Fold.{Loop, loop_starts, loop_goes, loop_ends, loop_refused}
+use Rattle.walk.specs.Fold.{Loop}
+use Rattle.walk.proofs.Fold.{loop_starts}
+use Rattle.walk.proofs.Fold.{loop_goes, loop_ends, loop_refused}
 use Rattle.text.specs.Ascii.{ascii}
-use Rattle.text.specs.Writing.{last, Writes, named, joined, empty}
+use Rattle.text.specs.Writing.{last, Writes, named, empty}
+use Rattle.text.proofs.Writing.{joined}
 use Rattle.lines.specs.Lines.{refusal_line}
 use Rattle.field_texts.specs.FieldTexts.{content_text}
 use Rattle.field_lines.specs.FieldLines.{head_text, line_of, lines_of, fields_text, text_of}

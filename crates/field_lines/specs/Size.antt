@@ -6,7 +6,8 @@ use Rattle.bits.specs.Complement.{signed}
 use Rattle.refusals.specs.declared.Refusal.{Refusal}
 use Rattle.fields.specs.declared.FieldKind.{FieldKind}
 use Rattle.fields.specs.Run.{Field, Scan, Fields, Refused, sheet_of}
-use Rattle.fields.specs.Limits.{Placed, Every, nothing, ◌also◌, longer, sheet_fields}
+use Rattle.fields.specs.Limits.{Placed, Every, nothing, ◌also◌}
+use Rattle.fields.proofs.Limits.{longer, sheet_fields}
 use Rattle.contents.specs.declared.FigureIn.{FigureIn}
 use Rattle.contents.specs.BigEndian.{value_of}
 use Rattle.text.specs.Ascii.{ascii}

@@ -11,7 +11,7 @@ use Rattle.hex_texts.specs.HexTexts.{hex_byte}
 use Rattle.field_texts.specs.FieldTexts.{content_text}
 use Rattle.field_texts.specs.Reading.{Printable}
 use Rattle.field_texts.specs.TheoremsLemmas.{printable_both, blank_printable, decimal_printable, hex_byte_printable}
-use Rattle.field_texts.specs.Theorems.{content_printable}
+use Rattle.field_texts.proofs.Theorems.{content_printable}
 use Rattle.listing_laws.specs.Count.{line_ends}
 use Rattle.field_lines.specs.FieldLines.{place_text, head_text, lines_of}
 

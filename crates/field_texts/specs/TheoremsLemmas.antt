@@ -1,19 +1,17 @@
 -- What the proofs of `Theorems` cite: the digits of bytes, a byte of a note by the test of it, and texts of printable ASCII joined.
 -- Assumes nothing.
-use Rattle.std.specs.Prelude.{◌≡◌, refl, Bool, true, false, not, cond, ◌&&◌, List, [], ◌∷◌, ◌++◌, ℕ, suc, ◌+◌, ◌*◌, ◌/◌, ◌%◌, ◌^◌, ◌≤◌, ◌<◌, eqb, ltb, ℤ, pos, negsuc, length, take, drop}
-use Rattle.std.proofs.Common.{sym, ap, ◌∙◌, add-mul, mul_assoc, arith, ltb-true, pow-add}
-use Rattle.std.proofs.lemmas.Bool.{false≢true, not-true}
+use Rattle.std.specs.Prelude.{◌≡◌, refl, Bool, true, false, cond, List, [], ◌∷◌, ◌++◌, ℕ, suc, ◌+◌, ◌*◌, ◌/◌, ◌%◌, ◌^◌, ◌≤◌, ◌<◌, ltb, ℤ, pos, negsuc, length}
+use Rattle.std.proofs.Common.{sym, ap, ◌∙◌, add-mul, mul_assoc, arith, pow-add}
 use Rattle.contents.specs.declared.FigureIn.{FigureIn}
 use Rattle.contents.specs.BigEndian.{value_of, Bytes}
 use Rattle.text.specs.Ascii.{ascii}
 use Rattle.hex_texts.specs.HexTexts.{hex_digit, hex_byte}
-use Rattle.hex_texts.specs.Reading.{hex_from, hex_value}
-use Rattle.hex_texts.specs.Every.{both}
-use Rattle.hex_texts.specs.Theorems.{byte_after, hex_byte_read}
+use Rattle.hex_texts.specs.Reading.{hex_from}
+use Rattle.hex_texts.specs.Theorems.{byte_after}
 use Rattle.numerals.specs.Digits.{decimal, padded, octal3, fixed, signed_fixed}
 use Rattle.numerals.specs.Theorems.{Digits, decimal-digits, padded-digits}
-use Rattle.field_texts.specs.FieldTexts.{figure_words, each, hex_bytes, is_plain, note_byte}
-use Rattle.field_texts.specs.Reading.{unescaped_from, unescaped, Printable}
+use Rattle.field_texts.specs.FieldTexts.{figure_words, each, hex_bytes}
+use Rattle.field_texts.specs.Reading.{Printable}
 
 -- ---- the digits of bytes
 
@@ -37,24 +35,6 @@ bytes_length (b ∷ bs) = omega (arith, bytes_length bs)
 
 -- ---- notes
 
-plain-parts : (b : ℕ) → is_plain b ≡ true → ((31 < b) × (b < 127)) × (eqb b 92 ≡ false)
-plain-parts b e =
-    let outer : (ltb 31 b && ltb b 127 ≡ true) × (not (eqb b 92) ≡ true) = both (ltb 31 b && ltb b 127) (not (eqb b 92)) e in
-    let inner : (ltb 31 b ≡ true) × (ltb b 127 ≡ true) = both (ltb 31 b) (ltb b 127) outer.0 in
-    ((ltb-true 31 b inner.0, ltb-true b 127 inner.1), not-true (eqb b 92) outer.1)
-
--- a byte that is shown is read, and then the rest
-pub byte_read : (b : ℕ) → b < 256 → (t : List ℕ) → unescaped (note_byte b ++ t) ≡ b ∷ unescaped t
-byte_read b h t = by (is_plain b) refl
-  where
-    itself : (q : Bool) → q ≡ false → cond q (hex_value (take 2 (drop 1 t)) ∷ unescaped_from 3 t) (b ∷ unescaped t) ≡ b ∷ unescaped t
-    itself true e = absurd (false≢true (sym e))
-    itself false e = refl
-
-    by : (p : Bool) → is_plain b ≡ p → unescaped (cond p (b ∷ []) (ascii "\\x" ++ hex_byte b) ++ t) ≡ b ∷ unescaped t
-    by true e = itself (eqb b 92) (plain-parts b e).1
-    by false e = ap (λ (x : ℕ). x ∷ unescaped t) (hex_byte_read b h)
-
 -- ---- printable ASCII
 
 pub printable_both : (s t : List ℕ) → Printable s → Printable t → Printable (s ++ t)
@@ -70,13 +50,6 @@ digit_printable d h = by (ltb d 10)
 
 pub hex_byte_printable : (b : ℕ) → Printable (hex_byte b)
 hex_byte_printable b = (digit_printable (b / 16 % 16) (omega arith), (digit_printable (b % 16) (omega arith), tt))
-
-pub byte_printable : (b : ℕ) → Printable (note_byte b)
-byte_printable b = by (is_plain b) refl
-  where
-    by : (p : Bool) → is_plain b ≡ p → Printable (cond p (b ∷ []) (ascii "\\x" ++ hex_byte b))
-    by true e = let parts = plain-parts b e in ((omega (arith, parts.0.0), omega (arith, parts.0.1)), tt)
-    by false e = ((omega arith, omega arith), ((omega arith, omega arith), hex_byte_printable b))
 
 pub each_printable : (f : ℕ → List ℕ) → ((b : ℕ) → Printable (f b)) → (bs : List ℕ) → Printable (each f bs)
 each_printable f h [] = tt

@@ -1,4 +1,6 @@
 // The content of a field as text into a buffer: what fits is stored and all is counted, as in the crate `text`.
+#![tactic(auto)]
+
 ghost use Rattle.text.specs.Writing.{Writes};
 ghost use Rattle.field_texts.specs.FieldTexts.{hex_bytes, note_byte, note_text, figure_text, content_text};
 

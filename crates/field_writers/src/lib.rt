@@ -1,4 +1,6 @@
 // Writing one field of a sheet at a place of a buffer.
+#![tactic(auto)]
+
 ghost use Rattle.std.specs.Prelude.{◌≡◌};
 ghost use Rattle.fields.specs.declared.FieldKind.{FieldKind};
 ghost use Rattle.contents.specs.Contents.{word_bytes, figure_bytes};

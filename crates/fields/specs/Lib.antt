@@ -11,4 +11,3 @@ pub mod Moved
 pub mod Answers
 pub mod Rules
 pub mod RulesLemmas
-pub mod Judged

@@ -1,8 +1,10 @@
 // What a sheet is: its fields, each with a tag of one byte, a length of two, high byte first, and a content. The definitions and their laws stand in specs/.
+#![tactic(auto)]
+
 use refusals::Refusal;
 
 // What a field holds.
-#[derive(Drop)]
+#[derive(Clone, Copy)]
 pub enum FieldKind {
     // tag 10 hex: a 32-bit word
     Word,
@@ -15,14 +17,14 @@ pub enum FieldKind {
 }
 
 // What a tag stands for.
-#[derive(Drop)]
+#[derive(Clone, Copy)]
 pub enum TagLookup {
     Known(FieldKind),
     Unknown,
 }
 
 // What stands at the start of a run of bytes.
-#[derive(Drop)]
+#[derive(Clone, Copy)]
 pub enum Start {
     // No byte is left.
     End,

@@ -9,7 +9,8 @@ use native.Mathlib.Omega.{arith}
 use borrow.Author.Tests.{leb-true, leb-false, lt-ltb, le-ltb, le-leb, ne_eqb}
 use lib.Dec.{eqb, ltb, leb}
 use lib.ListN.{length, take, drop, length-append}
-use Rattle.signed_numbers.specs.Signed.{greatest, signed_of, signed_large}
+use Rattle.signed_numbers.specs.Signed.{greatest, signed_of}
+use Rattle.signed_numbers.proofs.SignedTheorems.{signed_large}
 use Rattle.numerals.specs.Values.{value-below}
 use Rattle.typed_texts.specs.declared.Numeral.{Numeral}
 use Rattle.typed_texts.specs.Texts.{text_before, text_behind, starts_with}

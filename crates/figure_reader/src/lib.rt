@@ -1,4 +1,6 @@
 // Reads a figure as a person typed it.
+#![tactic(auto)]
+
 ghost use Rattle.std.specs.Prelude.{◌≡◌, ◌-◌, ◌^◌};
 ghost use Rattle.typed_figures.specs.Figures.{behind_sign, separator_of, typed, parts_read, figure_of};
 ghost use Rattle.figure_reader.specs.Digits.{digits_of};

@@ -7,7 +7,8 @@ use Rattle.codes.specs.declared.Marker.{Marker}
 use Rattle.records.specs.declared.Record.{Record}
 use Rattle.refusals.specs.declared.Refusal.{Refusal}
 use Rattle.statuses.specs.declared.Status.{Status}
-use Rattle.labels.specs.Assignment.{Assignment, document01}
+use Rattle.labels.specs.Assignment.{Assignment}
+use Rattle.labels.proofs.Assignment.{document01}
 use Rattle.labels.specs.declared.Lookup.{Lookup}
 use Rattle.encode.specs.Encode.{word_as}
 use Rattle.encode.specs.declared.Encoded.{Encoded}

@@ -2,7 +2,8 @@
 -- Assumes nothing.
 use Rattle.std.specs.Prelude.{◌≡◌, refl, List, [], ◌∷◌, map, ℕ}
 use Rattle.records.specs.declared.Kind.{Kind}
-use Rattle.labels.specs.Assignment.{Assignment, document01}
+use Rattle.labels.specs.Assignment.{Assignment}
+use Rattle.labels.proofs.Assignment.{document01}
 use Rattle.quantities.specs.Scale.{scale_of}
 use Rattle.quantities.specs.declared.Quantity.{Quantity}
 use Rattle.quantities.specs.declared.Quantity.TheVariants.{Azimuth, Course, Glide, MlsAzimuth, MlsGlide}

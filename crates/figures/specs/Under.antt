@@ -1,19 +1,16 @@
 -- A quantity coded under any label of 8 bits. Under the label that an assignment gives to the quantity this is what the figure is coded to (`coded_under_lem`);
 -- under another it is the same refusal, or the same word but for the label and the parity.
 -- Assumes nothing.
-use Rattle.std.specs.Prelude.{◌≡◌, refl, Bool, true, false, cond, ℕ, ◌+◌, ◌*◌, ◌/◌, ◌%◌, ◌^◌, ◌≤◌, ◌<◌, leb, ℤ}
-use Rattle.std.proofs.Common.{sym, ap, ◌∙◌, arith, leb-true, lit<}
+use Rattle.std.specs.Prelude.{◌≡◌, true, ℕ, ◌+◌, ◌*◌, ◌/◌, ◌%◌, ◌^◌, ◌≤◌, ◌<◌, ℤ}
+use Rattle.std.proofs.Common.{sym, ap, ◌∙◌, arith, lit<}
 use Rattle.bits.specs.Fields.{bits}
 use Rattle.bits.specs.Parity.{odd, parity_bit, parity_odd}
-use Rattle.refusals.specs.declared.Refusal.{Refusal}
 use Rattle.labels.specs.Label.{label_of}
-use Rattle.labels.specs.LabelLaws.{label_lt, label_low, label_twice}
+use Rattle.labels.proofs.LabelLaws.{label_lt, label_low, label_twice}
 use Rattle.encode.specs.Encode.{lower_as, word_as}
 use Rattle.encode.specs.declared.Encoded.{Encoded}
-use Rattle.quantities.specs.Nearest.{nearest_count}
-use Rattle.quantities.specs.declared.Nearest.{Nearest}
 use Rattle.quantities.specs.declared.Quantity.{Quantity}
-use Rattle.figures.specs.Coding.{ready_record, coded_nearest, coded_under}
+use Rattle.figures.specs.Coding.{ready_record}
 use Rattle.figures.specs.Ready.{ready_bits, ready_lower, ready_small}
 
 -- what coding under a label gives, beside what it gives under another: a word of this label with an odd number of ones, alike in bits 9 to 31; or the same refusal
@@ -42,24 +39,14 @@ module _ (q : Quantity) (source : ℕ) (c : ℤ) (s : source ≤ 3) where
   word_is : (label : ℕ) → word_as label (ready_record q source c) ≡ parity_bit (lower_as label (ready_record q source c)) * 2 ^ 31 + (upper * 256 + label_of label)
   word_is label = ap (λ (x : ℕ). parity_bit (lower_as label (ready_record q source c)) * 2 ^ 31 + x) (ready_lower q label source c)
 
-  word_label : (label : ℕ) → label < 256 → label_of (word_as label (ready_record q source c)) ≡ label
+  pub word_label : (label : ℕ) → label < 256 → label_of (word_as label (ready_record q source c)) ≡ label
   word_label label h =
       sym (label_low (word_as label (ready_record q source c)))
       ∙ ap label_of (ap (bits 1 8) (word_is label) ∙ low (parity_bit (lower_as label (ready_record q source c))) upper (label_of label) (label_lt label))
       ∙ label_twice label h
 
-  word_above : (label : ℕ) → bits 9 31 (word_as label (ready_record q source c)) ≡ upper
+  pub word_above : (label : ℕ) → bits 9 31 (word_as label (ready_record q source c)) ≡ upper
   word_above label = ap (bits 9 31) (word_is label) ∙ above (parity_bit (lower_as label (ready_record q source c))) upper (label_of label) upper_lt (label_lt label)
 
-  word-odd : (label : ℕ) → odd (word_as label (ready_record q source c)) ≡ true
+  pub word-odd : (label : ℕ) → odd (word_as label (ready_record q source c)) ≡ true
   word-odd label = parity_odd 31 (lower_as label (ready_record q source c)) (lit< tt) (rw (ready_lower q label source c) (below upper (label_of label) upper_lt (label_lt label)))
-
-pub coded_alike : (q : Quantity) (label other : ℕ) → label < 256 → (source : ℕ) (figure : ℤ) → Alike label (coded_under q label source figure) (coded_under q other source figure)
-coded_alike q label other h source figure = go (leb source 3) (leb-true source 3) (nearest_count q figure)
-  where
-    go : (b : Bool) → (b ≡ true → source ≤ 3) → (n : Nearest)
-        → Alike label (cond b (coded_nearest q label source n) (Encoded.Refused Refusal.Code)) (cond b (coded_nearest q other source n) (Encoded.Refused Refusal.Code))
-    go true s (Nearest.Count c) =
-        (word_label q source c (s refl) label h, word_above q source c (s refl) label ∙ sym (word_above q source c (s refl) other), word-odd q source c (s refl) label)
-    go true s Nearest.OutOfReach = refl
-    go false s n = refl

@@ -24,7 +24,7 @@ use Rattle.encode.specs.Encode.{codes_listed, values_legal, word_as, word_of, en
 use Rattle.encode.specs.declared.Encoded.{Encoded}
 use Rattle.roundtrip.specs.Reading.{Reads, accepted}
 use Rattle.roundtrip.specs.Back.{back}
-use Rattle.roundtrip.specs.RoundTrip.{encode-decode}
+use Rattle.roundtrip.proofs.RoundTrip.{encode-decode}
 use Rattle.quantities.specs.Scale.{scale_of}
 use Rattle.quantities.specs.Nearest.{nearest_count}
 use Rattle.quantities.specs.Statements.{LegalCount}

@@ -7,7 +7,8 @@ use Rattle.fields.specs.Run.{sheet_of}
 use Rattle.walk.specs.WithinLemmas.{drop-take}
 use Rattle.notes.specs.declared.NoteFound.{NoteFound}
 use Rattle.notes.specs.Note.{NoteText, Text, NoText, note_of, found_of}
-use Rattle.notes.specs.Place.{Lies, text_lies}
+use Rattle.notes.specs.Place.{Lies}
+use Rattle.notes.proofs.Place.{text_lies}
 use Rattle.flat_contents.specs.declared.FlatNote.{FlatNote}
 use Rattle.flat_contents.specs.Contents.{flat_note}
 

@@ -11,7 +11,7 @@ use notes::NoteFound;
 
 // A label and millionths, or a refusal's number beside zeros.
 #[repr(C)]
-#[derive(Drop)]
+#[derive(Clone, Copy)]
 pub struct FlatFigure {
     pub refusal: u8,
     pub label: u8,
@@ -20,7 +20,7 @@ pub struct FlatFigure {
 
 // The offset of a note's first byte and the number of its bytes; beside a refusal's number, the offset that it has, and 0.
 #[repr(C)]
-#[derive(Drop)]
+#[derive(Clone, Copy)]
 pub struct FlatNote {
     pub refusal: u8,
     pub start: usize,

@@ -4,7 +4,7 @@ use Rattle.std.specs.Prelude.{◌≡◌, ◌↔◌}
 use Rattle.std.proofs.Common.{ap, arith}
 use Rattle.refusals.specs.Numbers.{number_of}
 use Rattle.reasons.specs.Reasons.{number_of as reasonNumber}
-use Rattle.reasons.specs.Theorems.{one_number, number-bounds}
+use Rattle.reasons.proofs.Theorems.{one_number, number-bounds}
 use Rattle.reasons.specs.declared.Reason.{Reason}
 use Rattle.explanations.specs.declared.Explained.{Explained}
 use Rattle.flat_explanations.specs.declared.FlatExplained.{FlatExplained}

@@ -7,7 +7,7 @@ use explanations::Explained;
 
 // The number of a reason, or its refusal's number beside 0.
 #[repr(C)]
-#[derive(Drop)]
+#[derive(Clone, Copy)]
 pub struct FlatExplained {
     pub refusal: u8,
     pub reason: u8,

@@ -1,1 +1,1 @@
-mod Among
+pub mod Fields

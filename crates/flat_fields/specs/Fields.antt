@@ -1,7 +1,7 @@
 -- The record that numbers stand for, or their refusal: 2 for no kind, 4 for a code or a source outside its list, 6 for a flag above 1 or a value
 -- that the record cannot hold. What the kind has no field for is not looked at.
 -- Assumes nothing.
-use Rattle.std.specs.Prelude.{◌≡◌, refl, Bool, true, false, cond, ◌&&◌, List, [], ◌∷◌, ℕ, ◌+◌, ◌%◌, eqb, leb}
+use Rattle.std.specs.Prelude.{◌≡◌, Bool, true, false, cond, ◌&&◌, List, [], ◌∷◌, ℕ, ◌+◌, ◌%◌, eqb, leb}
 use Rattle.statuses.specs.Statuses.{binary_status}
 use Rattle.codes.specs.Codes.{marker_of, marker_listed, category_of}
 use Rattle.records.specs.declared.Body.{Body}
@@ -9,7 +9,7 @@ use Rattle.records.specs.declared.Kind.{Kind}
 use Rattle.records.specs.declared.Record.{Record}
 use Rattle.refusals.specs.declared.Refusal.{Refusal}
 use Rattle.statuses.specs.declared.Status.{Status}
-use Rattle.records.specs.All.{kinds, agree}
+use Rattle.records.specs.All.{kinds}
 use Rattle.labels.specs.declared.Lookup.{Lookup}
 use Rattle.decode.specs.declared.Decoded.{Decoded}
 use Rattle.flat_records.specs.Numbers.{numbers}
@@ -135,7 +135,3 @@ all-kept k f c v = rw (c, v)
 -- the same numbers with every flag 0
 abbrev pub flagless : FlatRecord → FlatRecord
 flagless f = numbers (f.refusal, f.kind, f.source) (f.status, f.marker, f.category) (0, 0, 0, 0) f.word_number f.count f.value
-
--- Which numbers are refused with 4 does not depend on a flag: document 01 has lists for codes, and a flag is none.
-pub flags_no_code : (f : FlatRecord) (k : Kind) → listed k (flagless f) ≡ listed k f
-flags_no_code f k = agree (λ j. listed j (flagless f)) (λ j. listed j f) refl k

@@ -1,4 +1,6 @@
 // The record that numbers stand for.
+#![tactic(auto)]
+
 ghost use Rattle.std.specs.Prelude.{◌≡◌};
 ghost use Rattle.flat_fields.specs.Fields.{kind_at, listed, fits, body_from, record_of_kind, record_from};
 

@@ -2,12 +2,12 @@
 -- Assumes nothing.
 use Rattle.std.specs.Prelude.{◌≡◌, true, ℕ, ◌≤◌, ℤ}
 use Rattle.std.proofs.Common.{ap, ◌∙◌}
-use Rattle.labels.specs.Assignment.{document01}
+use Rattle.labels.proofs.Assignment.{document01}
 use Rattle.quantities.specs.Nearest.{millionths_of}
 use Rattle.quantities.specs.declared.Quantity.{Quantity}
 use Rattle.figures.specs.Coding.{label_for, coded_of}
 use Rattle.figures.specs.Demand.{count_bits}
-use Rattle.figures.specs.Theorems.{demand3_of}
+use Rattle.figures.proofs.Theorems.{demand3_of}
 use Rattle.figures.specs.Words.{quantity_of_label}
 use Rattle.figures.specs.declared.Measured.{Measured}
 use Rattle.flat_words.specs.Words.{flat_word}

@@ -5,7 +5,7 @@ use Rattle.std.proofs.Common.{arith, ltb-true, le→leb}
 use Rattle.std.specs.Int.Signed.{mag, le_z_yes}
 use Rattle.refusals.specs.Numbers.{number_of}
 use Rattle.refusals.specs.declared.Refusal.{Refusal}
-use Rattle.labels.specs.Assignment.{document01}
+use Rattle.labels.proofs.Assignment.{document01}
 use Rattle.encode.specs.Encode.{narrow, wide}
 use Rattle.quantities.specs.Nearest.{millionths_of}
 use Rattle.quantities.specs.Scale.{scale_of}

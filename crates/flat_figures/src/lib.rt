@@ -11,7 +11,7 @@ use quantities::Quantity;
 
 // A figure in millionths, or its refusal's number beside the figure 0.
 #[repr(C)]
-#[derive(Drop)]
+#[derive(Clone, Copy)]
 pub struct FlatMillionths {
     pub refusal: u8,
     pub millionths: i64,

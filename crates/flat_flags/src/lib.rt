@@ -1,4 +1,6 @@
 // A flag as a number.
+#![tactic(auto)]
+
 ghost use Rattle.std.specs.Prelude.{◌≡◌};
 ghost use Rattle.codes.specs.Codes.{flag_bit};
 

@@ -3,7 +3,7 @@
 use Rattle.std.specs.Prelude.{◌≡◌, refl, Bool, true, false, cond, ℕ, ◌/◌, ◌%◌, ◌^◌, ◌<◌, eqb}
 use Rattle.std.proofs.Common.{subst, mod-lt, arith, lit<}
 use Rattle.bits.specs.Fields.{bits}
-use Rattle.labels.specs.Assignment.{document01}
+use Rattle.labels.proofs.Assignment.{document01}
 use Rattle.reassembly_parts.specs.Take.{dropped, from_same, take_of}
 use Rattle.reassembly_parts.specs.declared.Part.{Part}
 use Rattle.reassembly_parts.specs.declared.Reassembly.{Reassembly}

@@ -5,18 +5,21 @@ use Rattle.std.specs.Prelude.{◌≡◌, refl, Bool, true, false, ◌&&◌, ℕ,
 use Rattle.std.proofs.Common.{sym, ap, ap₂, ◌∙◌, arith, leb-true}
 use Rattle.std.proofs.lemmas.Bool.{false≢true}
 use Rattle.bits.specs.Laws.{both_true}
-use Rattle.refusals.specs.Numbers.{number_of, number-bounds}
+use Rattle.refusals.specs.Numbers.{number_of}
+use Rattle.refusals.proofs.Numbers.{number-bounds}
 use Rattle.records.specs.Kinds.{kind_of}
 use Rattle.records.specs.declared.Kind.{Kind}
 use Rattle.records.specs.declared.Record.{Record}
 use Rattle.refusals.specs.declared.Refusal.{Refusal}
-use Rattle.labels.specs.Assignment.{document01}
+use Rattle.labels.proofs.Assignment.{document01}
 use Rattle.labels.specs.declared.Lookup.{Lookup}
 use Rattle.decode.specs.Decode.{decode_of}
 use Rattle.decode.specs.declared.Decoded.{Decoded}
-use Rattle.encode.specs.Encode.{codes_listed, values_legal, encode_of, codes_broken, values_broken}
+use Rattle.encode.specs.Encode.{codes_listed, values_legal, encode_of, values_broken}
+use Rattle.encode.proofs.Encode.{codes_broken}
 use Rattle.encode.specs.declared.Encoded.{Encoded}
-use Rattle.roundtrip.specs.RoundTrip.{decode-encode, encode-decode, written}
+use Rattle.roundtrip.specs.RoundTrip.{decode-encode, written}
+use Rattle.roundtrip.proofs.RoundTrip.{encode-decode}
 use Rattle.flat_records.specs.Numbers.{flat_body, flat_of}
 use Rattle.flat_records.specs.declared.FlatRecord.{FlatRecord}
 use Rattle.flat_fields.specs.Fields.{kind_at, listed, fits, body_from, record_as, record_of_kind, record_found, record_from}

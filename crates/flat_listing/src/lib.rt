@@ -7,7 +7,7 @@ use listing::Listed;
 
 // The length of a listing, or a refusal's number beside 0.
 #[repr(C)]
-#[derive(Drop)]
+#[derive(Clone, Copy)]
 pub struct FlatListed {
     pub refusal: u8,
     pub length: usize,

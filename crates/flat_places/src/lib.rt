@@ -12,7 +12,7 @@ use writer::Written;
 
 // An offset: of a legal sheet 0, of a field that was written the place after it; beside a refusal's number the offset that it has.
 #[repr(C)]
-#[derive(Drop)]
+#[derive(Clone, Copy)]
 pub struct FlatPlace {
     pub refusal: u8,
     pub offset: usize,

@@ -7,7 +7,7 @@ use chart::Charted;
 
 // A chart point as numbers, or its refusal's number beside zeros.
 #[repr(C)]
-#[derive(Drop)]
+#[derive(Clone, Copy)]
 pub struct FlatPoint {
     pub refusal: u8,
     pub course: f64,

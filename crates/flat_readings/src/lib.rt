@@ -8,7 +8,7 @@ use views::Setting;
 
 // A reading as numbers. Zero stands in every field where there is none, and beside a refusal in every other field.
 #[repr(C)]
-#[derive(Drop)]
+#[derive(Clone, Copy)]
 pub struct FlatReading {
     // document 01's number, or 0 where the word is accepted
     pub refusal: u8,

@@ -8,7 +8,7 @@ use reassembly_parts::Reassembly;
 // A partial group as numbers: how many parts are held, 1 to 3, their source, and their bits, those of part one lowest. Any other number of parts
 // is none, and of none the source and the bits are zero.
 #[repr(C)]
-#[derive(Drop)]
+#[derive(Clone, Copy)]
 pub struct Partial {
     pub parts: u8,
     pub source: u8,
@@ -17,7 +17,7 @@ pub struct Partial {
 
 // The answer to one word with the partial group that is then held. The bits and the parity stand beside a complete group alone.
 #[repr(C)]
-#[derive(Drop)]
+#[derive(Clone, Copy)]
 pub struct FlatStep {
     pub next: Partial,
     // document 01's number, or 0 where the word is taken
@@ -28,7 +28,7 @@ pub struct FlatStep {
 }
 
 // The answer to one word.
-#[derive(Drop)]
+#[derive(Clone, Copy)]
 pub struct FlatAnswer {
     pub refusal: u8,
     pub complete: u8,

@@ -5,10 +5,6 @@ use Rattle.codes.specs.Codes.{flag_bit}
 use Rattle.records.specs.declared.Body.{Body}
 use Rattle.flat_records.specs.Numbers.{flat_numbers}
 
-pub part_1_told : (n s number content : ℕ) →
-    ((flat_numbers n s (Body.Part1 number content)).word_number ≡ number) × ((flat_numbers n s (Body.Part1 number content)).value ≡ content)
-part_1_told n s number content = (refl, refl)
-
 pub part_2_told : (n s content : ℕ) → (flat_numbers n s (Body.Part2 content)).value ≡ content
 part_2_told n s content = refl
 

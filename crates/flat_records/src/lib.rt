@@ -1,8 +1,9 @@
 // A record as numbers, for other languages: the definitions and their laws stand in specs/.
+#![tactic(auto)]
 
 // A record as numbers. Zero stands in every field that the kind has not, and beside a refusal in every other field.
 #[repr(C)]
-#[derive(Drop)]
+#[derive(Clone, Copy)]
 pub struct FlatRecord {
     // document 01's number, or 0 where the word is accepted
     pub refusal: u8,

@@ -6,14 +6,15 @@ use Rattle.refusals.specs.Numbers.{number_of, numbered}
 use Rattle.refusals.specs.declared.Numbered.{Numbered}
 use Rattle.refusals.specs.declared.Refusal.{Refusal}
 use Rattle.fields.specs.declared.Start.{Start}
-use Rattle.fields.specs.Limits.{sheet_refusal}
+use Rattle.fields.proofs.Limits.{sheet_refusal}
 use Rattle.fields.specs.Run.{Scan, Fields, Refused, sheet_of}
 use Rattle.fields.specs.Start.{start_of}
 use Rattle.walk.specs.declared.Given.{Given}
 use Rattle.walk.specs.declared.Walk.{Walk}
-use Rattle.walk.specs.Stands.{advances}
+use Rattle.walk.proofs.Stands.{advances}
 use Rattle.walk.specs.Walked.{after}
-use Rattle.walk.specs.Step.{walk_of, start_walk, level_of, given_at, step_of}
+use Rattle.walk.specs.Step.{walk_of, start_walk, given_at}
+use Rattle.walk.specs.Step.{level_of, step_of}
 use Rattle.flat_walks.specs.declared.FlatWalk.{FlatWalk}
 use Rattle.flat_walks.specs.Walks.{sheet_refusals, flat_walk, walk_numbered, walk_from, flat_field, stepped}
 

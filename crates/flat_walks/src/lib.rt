@@ -10,7 +10,7 @@ use walk::{Given, Position, Walk, WalkStep};
 // Where a walk stands, as numbers. 9, 10, 11, 12 and 15 stand for a sheet refused so, with the refusal's offset as the place; beside any other number
 // stand the place and the ends of a position.
 #[repr(C)]
-#[derive(Drop)]
+#[derive(Clone, Copy)]
 pub struct FlatWalk {
     pub refusal: u8,
     pub place: usize,
@@ -21,7 +21,7 @@ pub struct FlatWalk {
 
 // A field as numbers. The tag is 0 at the end, and beside a refusal, whose offset is then the place.
 #[repr(C)]
-#[derive(Drop)]
+#[derive(Clone, Copy)]
 pub struct FlatField {
     pub refusal: u8,
     pub tag: u8,
@@ -32,7 +32,7 @@ pub struct FlatField {
 
 // The field that a step gives, and where the walk then stands.
 #[repr(C)]
-#[derive(Drop)]
+#[derive(Clone, Copy)]
 pub struct FlatWalked {
     pub field: FlatField,
     pub next: FlatWalk,

@@ -8,7 +8,7 @@ use flat_records::FlatRecord;
 
 // A word, or its refusal's number beside the word 0.
 #[repr(C)]
-#[derive(Drop)]
+#[derive(Clone, Copy)]
 pub struct FlatWord {
     pub refusal: u8,
     pub word: u32,

@@ -1,4 +1,6 @@
 // The numbers of a record, or of a refusal.
+#![tactic(auto)]
+
 ghost use Rattle.std.specs.Prelude.{◌≡◌};
 ghost use Rattle.codes.specs.Codes.{marker_code, category_code, flag_bit};
 ghost use Rattle.flat_records.specs.Numbers.{status_number, with_count, with_value, part, refused, flat_numbers, flat_of};

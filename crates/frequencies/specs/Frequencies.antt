@@ -1,6 +1,6 @@
 -- Frequencies in tens of kHz, and their decimal digits as the words send them.
 -- Assumes nothing.
-use Rattle.std.specs.Prelude.{◌≡◌, Bool, true, not, ◌&&◌, ℕ, zero, suc, ◌+◌, ◌-◌, ◌*◌, ◌/◌, ◌%◌, ◌≤◌, ◌<◌, eqb, leb}
+use Rattle.std.specs.Prelude.{◌≡◌, Bool, true, not, ◌&&◌, ℕ, zero, suc, ◌+◌, ◌*◌, ◌/◌, ◌%◌, ◌≤◌, ◌<◌, eqb, leb}
 use Rattle.std.proofs.Common.{arith, leb-true}
 use Rattle.bits.specs.Fields.{bits}
 use Rattle.bits.specs.Laws.{both_true}

@@ -1,9 +1,11 @@
 // Frequencies in tens of kHz: what the words leave out, the codes of the tens, and which ones a word's digits can say.
+#![tactic(auto)]
+
 ghost use Rattle.std.specs.Prelude.{◌≡◌};
 ghost use Rattle.frequencies.specs.Frequencies.{offset, tens_of, tens_listed, tens_code, frequency_in, expressible};
 
 // The bands of the frequency words.
-#[derive(Drop)]
+#[derive(Clone, Copy)]
 pub enum Band {
     Vor,
     Ils,

@@ -1,4 +1,6 @@
 // Frequency words whose zero bits are zero: their rules, and what they hold.
+#![tactic(auto)]
+
 ghost use Rattle.std.specs.Prelude.{◌≡◌};
 ghost use Rattle.bits.specs.Fields.{bits};
 ghost use Rattle.statuses.specs.Statuses.{decimal_status};

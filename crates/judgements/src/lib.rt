@@ -1,4 +1,6 @@
 // A judgement from one test, and what a word is by its judgement.
+#![tactic(auto)]
+
 ghost use Rattle.std.specs.Prelude.{◌≡◌, cond};
 ghost use Rattle.bits.specs.Fields.{bits};
 ghost use Rattle.decode.specs.Decode.{judged};

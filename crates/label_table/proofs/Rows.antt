@@ -7,7 +7,8 @@ use native.Mathlib.Nat.{le_of_suc-le-suc, not-suc-le-zero}
 use lib.ListN.{get_or, length}
 use Rattle.records.specs.declared.Kind.{Kind}
 use Rattle.labels.specs.declared.Lookup.TheVariants.{Known}
-use Rattle.labels.specs.Table.{rows, label_number, find_kind, found}
+use Rattle.labels.specs.Table.{rows, label_number, find_kind}
+use Rattle.labels.proofs.Table.{found}
 
 pub get_or_within : {A : Type 0} (l : List A) (i : ℕ) (d e : A) → i < length l → get_or l i d ≡ get_or l i e
 get_or_within [] i d e h = absurd (not-suc-le-zero h)

@@ -1,4 +1,6 @@
 // Document 01's table of the fifteen labels with their zero bits: the row of a kind, and the kind of a label.
+#![tactic(auto)]
+
 ghost use Rattle.std.specs.Prelude.{◌≡◌};
 ghost use Rattle.labels.specs.Table.{rows, row_of, kind_at, find_kind};
 

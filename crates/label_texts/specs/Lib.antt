@@ -2,4 +2,3 @@
 pub mod LabelTexts
 pub mod Theorems
 pub mod Writers
-mod Examples

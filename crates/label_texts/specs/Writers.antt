@@ -1,22 +1,16 @@
 -- What the proofs of the writers cite: the byte at each place, and one line more.
 -- Assumes nothing.
-use Rattle.std.specs.Prelude.{◌≡◌, Bool, true, false, List, [], ◌∷◌, ◌++◌, ℕ, zero, suc, ◌+◌, ◌<◌, length, take, get_or}
+use Rattle.std.specs.Prelude.{◌≡◌, Bool, false, List, [], ◌∷◌, ◌++◌, ℕ, zero, suc, ◌+◌, ◌<◌, length, take, get_or}
 use Rattle.std.proofs.Common.{sym, ap, ◌∙◌, append-nil, append_assoc, arith}
 use Rattle.std.proofs.Math.ListN.{get_or-map}
 use Rattle.records.specs.declared.Kind.TheVariants.{VorAzimuth}
 use Rattle.records.specs.All.{kinds}
-use Rattle.labels.specs.BytesLemmas.{over_bytes}
 use Rattle.labels.specs.Table.{byte_of, kind_at}
-use Rattle.label_texts.specs.LabelTexts.{label_line, label_lines, bytes_below, shown_bytes}
+use Rattle.label_texts.specs.LabelTexts.{label_line, label_lines, shown_bytes}
 
 -- the byte at a place among those that are shown
 abbrev pub shown_at : Bool → ℕ → ℕ
 shown_at all i = get_or (shown_bytes all) i (byte_of VorAzimuth)
-
--- of all bytes it is the place itself, and of the fifteen labels the byte of the kind there
-pub any_byte : (b : ℕ) → b < 256 → shown_at true b ≡ b
-unfolding shown_bytes
-any_byte = over_bytes (λ (b : ℕ). get_or (bytes_below 256) b (byte_of VorAzimuth)) (λ (b : ℕ). b) tt
 
 pub kind_byte : (i : ℕ) → shown_at false i ≡ byte_of (kind_at i)
 unfolding shown_bytes

@@ -1,1 +1,2 @@
 // Labels as text: the definitions and their laws stand in specs/.
+#![tactic(auto)]

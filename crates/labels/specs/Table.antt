@@ -3,7 +3,7 @@
 use Rattle.std.specs.Prelude.{◌≡◌, refl, Bool, true, false, cond, List, [], ◌∷◌, map, ℕ, eqb, get_or}
 use Rattle.std.proofs.Common.{sym, ap, ◌∙◌, arith, eqb-true}
 use Rattle.bits.specs.Layout.{mask}
-use Rattle.records.specs.All.{kinds, agree}
+use Rattle.records.specs.All.{kinds}
 use Rattle.records.specs.Layouts.{word_layout}
 use Rattle.records.specs.declared.Kind.{Kind}
 use Rattle.records.specs.declared.Kind.TheVariants.{VorAzimuth, VorFrequency, IlsCourse, IlsGlide, IlsFrequency, MlsFrequency, MlsAzimuthDeviation, MlsGlideDeviation, SelectedAzimuth, GreatestGlideAngle, SelectedGlideAngle, Part1, Part2, Part3, Part4}
@@ -48,11 +48,6 @@ rows = map row_of kinds
 abbrev pub find_kind : List Row → ℕ → Lookup
 find_kind [] l = Unknown
 find_kind (r ∷ rs) l = cond (eqb l r.label) (Known r.kind) (find_kind rs l)
-
--- the label of every kind finds that kind
-pub found : (k : Kind) → find_kind rows (label_number k) ≡ Known k
-unfolding row_of
-found = agree (λ k. find_kind rows (label_number k)) Known refl
 
 -- only its own label finds a kind
 pub only : (ks : List Kind) (l : ℕ) (k : Kind) → find_kind (map row_of ks) l ≡ Known k → label_number k ≡ l

@@ -1,8 +1,10 @@
 // The labels: document 01's table of the fifteen labels with their zero bits, and the label of a word. The definitions and their laws stand in specs/.
+#![tactic(auto)]
+
 use records::Kind;
 
 // A row of the table. A one in `zeros` is a bit that is zero in every word of the kind.
-#[derive(Drop)]
+#[derive(Clone, Copy)]
 pub struct Row {
     pub label: u32,
     pub kind: Kind,
@@ -10,7 +12,7 @@ pub struct Row {
 }
 
 // What a label stands for.
-#[derive(Drop)]
+#[derive(Clone, Copy)]
 pub enum Lookup {
     Known(Kind),
     Unknown,

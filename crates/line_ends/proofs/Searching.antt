@@ -9,7 +9,8 @@ use lib.ListN.{length, drop, get_or}
 use lib.Seq.{drop-length}
 use Rattle.typed_texts.specs.TextLaws.{has}
 use Rattle.text_lines.specs.Lines.{whole_lines}
-use Rattle.text_lines.specs.LineLaws.{whole_length, none_from, none-whole-length}
+use Rattle.text_lines.specs.LineLaws.{none_from}
+use Rattle.text_lines.proofs.LineLaws.{whole_length, none-whole-length}
 
 abbrev pub NoneFrom : List ℕ → ℕ → Type 0
 NoneFrom t i = (i ≤ length t) × (has 10 (drop i t) ≡ false)

@@ -1,4 +1,6 @@
 // Where the whole lines of a text end.
+#![tactic(auto)]
+
 ghost use Rattle.std.specs.Prelude.{◌≡◌, length};
 ghost use Rattle.text_lines.specs.Lines.{whole_lines};
 

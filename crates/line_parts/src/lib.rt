@@ -1,4 +1,6 @@
 // The parts of a typed line, found.
+#![tactic(auto)]
+
 ghost use Rattle.std.specs.Prelude.{◌≡◌, length};
 ghost use Rattle.typed_lines.specs.Lines.{in_run, run_of, skip_blanks, first_part, behind_part, without_return};
 

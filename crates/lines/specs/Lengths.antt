@@ -2,7 +2,8 @@
 -- Assumes nothing.
 use Rattle.std.specs.Prelude.{ℕ, ◌^◌, ◌≤◌, ◌<◌, length}
 use Rattle.std.proofs.Common.{arith, length-append}
-use Rattle.refusals.specs.Numbers.{number_of, number-bounds}
+use Rattle.refusals.specs.Numbers.{number_of}
+use Rattle.refusals.proofs.Numbers.{number-bounds}
 use Rattle.refusals.specs.declared.Refusal.{Refusal}
 use Rattle.numerals.specs.Theorems.{decimal-length}
 use Rattle.verdicts.specs.declared.Verdict.{Verdict}

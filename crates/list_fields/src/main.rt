@@ -1,4 +1,5 @@
 // Lists the fields of the sheet that standard input holds, a line for each, to standard output.
+#![tactic(auto)]
 ghost use Rattle.std.specs.Prelude.{◌≡◌, take};
 ghost use Rattle.io.specs.Counts.{IsPrefixLen};
 ghost use Rattle.field_lines.specs.FieldLines.{text_of};
@@ -16,14 +17,15 @@ fn list_whole(sheet: &[u8], text: &mut [u8; 196608]) -> usize
     }
 }
 
-fn main() {
+fn main(rt: HostRuntime) {
+    let err = rt.stderr();
     let name = b"lampcygnet-fields";
     let mut sheet = [0u8; 32769];
-    let input = standard_streams::read_sheet(name, &mut sheet);
+    let input = standard_streams::read_sheet(&rt, &err, name, &mut sheet);
     if input.read {
         let read = input.length;
         let mut text = [0u8; 196608];
         let length = list_whole(&sheet[..read], &mut text);
-        standard_streams::write_text(name, &text[..length]);
+        standard_streams::write_text(&rt, &err, name, &text[..length]);
     }
 }

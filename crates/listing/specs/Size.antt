@@ -7,8 +7,8 @@ use Rattle.fields.specs.declared.FieldKind.{FieldKind}
 use Rattle.fields.specs.declared.Start.{Start}
 use Rattle.fields.specs.Start.{is_leaf, start_of}
 use Rattle.fields.specs.Run.{Field, Scan, Fields, Refused, ◌and_then◌, inside, step, scan, run_of, sheet_of}
-use Rattle.fields.specs.Laws.{whole-field}
-use Rattle.fields.specs.Limits.{not_longer, longer, sheet_refusal}
+use Rattle.fields.proofs.Laws.{whole-field}
+use Rattle.fields.proofs.Limits.{not_longer, longer, sheet_refusal}
 use Rattle.contents.specs.declared.WordIn.{WordIn}
 use Rattle.contents.specs.declared.FigureIn.{FigureIn}
 use Rattle.contents.specs.BigEndian.{value_of}

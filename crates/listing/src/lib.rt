@@ -11,7 +11,7 @@ use verdicts::Previous;
 use walk::{FieldAt, Given};
 
 // What stands just before a field, as far as a figure is tested against it.
-#[derive(Drop)]
+#[derive(Clone, Copy)]
 pub enum Before {
     // No word.
     Nothing,
@@ -20,7 +20,7 @@ pub enum Before {
 }
 
 // Where a listing stands: the place of the next line, what stands just before, and how many words there were and how many of them are refused.
-#[derive(Drop)]
+#[derive(Clone, Copy)]
 struct Progress {
     at: usize,
     before: Before,
@@ -172,7 +172,7 @@ fn is_longer(sheet: &[u8], room: usize) -> bool
 }
 
 // What a listing into a buffer gives.
-#[derive(Drop)]
+#[derive(Clone, Copy)]
 pub enum Listed {
     // The text stands in the buffer's first bytes, as many as this.
     Length(usize),

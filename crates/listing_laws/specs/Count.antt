@@ -9,7 +9,8 @@ use Rattle.statuses.specs.declared.Status.{Status}
 use Rattle.fields.specs.declared.FieldKind.{FieldKind}
 use Rattle.fields.specs.Start.{length_allowed}
 use Rattle.fields.specs.Run.{Field, Fields, sheet_of}
-use Rattle.fields.specs.Grammar.{Trees, no_more, leaf, group, Bytes, bytes_of, fields_of, Allowed, no_more_allowed, leaf_allowed, group_allowed, written_sheet}
+use Rattle.fields.specs.Grammar.{Trees, no_more, leaf, group, Bytes, bytes_of, fields_of, Allowed, no_more_allowed, leaf_allowed, group_allowed}
+use Rattle.fields.proofs.Grammar.{written_sheet}
 use Rattle.contents.specs.declared.WordIn.{WordIn}
 use Rattle.contents.specs.declared.FigureIn.{FigureIn}
 use Rattle.contents.specs.BigEndian.{value_of}

@@ -4,7 +4,8 @@ use Rattle.std.specs.Prelude.{◌≡◌, refl, List, [], ◌∷◌, ◌++◌, �
 use Rattle.std.proofs.Common.{sym, ap, ap₂, subst, ◌∙◌, append_assoc, arith, eq-eqb, ne_eqb}
 use Rattle.fields.specs.declared.FieldKind.{FieldKind}
 use Rattle.fields.specs.Run.{Field}
-use Rattle.fields.specs.Grammar.{Trees, no_more, leaf, group, bytes_of, fields_of, Allowed, sheet_written}
+use Rattle.fields.specs.Grammar.{Trees, no_more, leaf, group, bytes_of, fields_of, Allowed}
+use Rattle.fields.proofs.Grammar.{sheet_written}
 use Rattle.contents.specs.declared.WordIn.{WordIn}
 use Rattle.verdicts.specs.declared.Previous.{Previous}
 use Rattle.lines.specs.Lines.{total_line}

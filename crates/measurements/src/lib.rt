@@ -1,4 +1,6 @@
 // The quantity and the count that a record measures.
+#![tactic(auto)]
+
 ghost use Rattle.std.specs.Prelude.{◌≡◌};
 ghost use Rattle.measurements.specs.Measurements.{value_measurement, measurement_of};
 
@@ -7,7 +9,7 @@ use records::Body;
 use views::{Value, View};
 
 // The quantity and the count that a word holds, or none.
-#[derive(Drop)]
+#[derive(Clone, Copy)]
 pub enum Measurement {
     Count(Quantity, i16),
     Nothing,

@@ -15,7 +15,8 @@ use Rattle.walk.specs.declared.Given.{Given}
 use Rattle.walk.specs.declared.WalkStep.{WalkStep}
 use Rattle.walk.specs.Step.{step_of}
 use Rattle.walk.specs.Rest.{field_of}
-use Rattle.walk.specs.Fold.{Loop, loop_goes, loop_stops, field_ends, field-length}
+use Rattle.walk.specs.Fold.{Loop}
+use Rattle.walk.proofs.Fold.{loop_goes, loop_stops, field_ends, field-length}
 use Rattle.notes.specs.declared.NoteFound.{NoteFound}
 use Rattle.notes.specs.Note.{Text, is_note, note_in, note_of, found_of}
 

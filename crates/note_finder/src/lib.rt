@@ -1,4 +1,6 @@
 // Finding the note at a place of a sheet.
+#![tactic(auto)]
+
 ghost use Rattle.std.specs.Prelude.{◌≡◌, ◌&&◌, eqb};
 ghost use Rattle.fields.specs.Run.{sheet_of};
 ghost use Rattle.notes.specs.Note.{is_note, note_of, text_of, found_of, span_of, PartOf};

@@ -1,8 +1,10 @@
 // What asking for the note at a place of a sheet gives.
+#![tactic(auto)]
+
 use refusals::Refusal;
 
 // Where the text of a note is.
-#[derive(Drop)]
+#[derive(Clone, Copy)]
 pub enum NoteFound {
     // It starts and ends at these offsets.
     Found(usize, usize),
@@ -11,7 +13,7 @@ pub enum NoteFound {
 }
 
 // A part of a sheet, from a start to an end.
-#[derive(Drop)]
+#[derive(Clone, Copy)]
 pub struct Span {
     pub start: usize,
     pub end: usize,

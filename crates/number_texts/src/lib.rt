@@ -1,4 +1,6 @@
 // Numbers in octal digits, behind a text and in millionths, into a buffer: what fits is stored and all is counted, as in the crate `text`.
+#![tactic(auto)]
+
 ghost use Rattle.std.specs.Prelude.{◌++◌};
 ghost use Rattle.text.specs.Writing.{Writes};
 ghost use Rattle.numerals.specs.Digits.{octal3, decimal, signed_fixed};

@@ -1,4 +1,6 @@
 // Reads a typed line of a word and a figure.
+#![tactic(auto)]
+
 ghost use Rattle.std.specs.Prelude.{◌≡◌};
 ghost use Rattle.typed_pairs.specs.Pairs.{pair_of, pair_in, line_of};
 

@@ -7,7 +7,7 @@ use Rattle.std.proofs.Math.Pow.{field, mod-mod-pow}
 use Rattle.std.proofs.lemmas.Nat.{mod-pow-add}
 use Rattle.bits.specs.Fields.{bits}
 use Rattle.reassembly_parts.specs.declared.Group.{Group}
-use Rattle.reassembly_parts.specs.Bits.{group_bit}
+use Rattle.reassembly_parts.proofs.Bits.{group_bit}
 use Rattle.reassembly_parts.specs.Run.{group_of}
 
 -- the group that four words give: bits 14 to 29 of each, those of the first lowest, and whether the parity was good, bit 11 of the fourth

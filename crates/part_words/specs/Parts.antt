@@ -8,7 +8,8 @@ use Rattle.records.specs.declared.Kind.{Kind}
 use Rattle.records.specs.declared.Kind.TheVariants.{Part1, Part2, Part3, Part4}
 use Rattle.refusals.specs.declared.Refusal.TheVariants.{Parity, Label}
 use Rattle.labels.specs.Label.{label_of}
-use Rattle.labels.specs.Assignment.{Assignment, document01}
+use Rattle.labels.specs.Assignment.{Assignment}
+use Rattle.labels.proofs.Assignment.{document01}
 use Rattle.labels.specs.declared.Lookup.{Lookup}
 use Rattle.labels.specs.declared.Lookup.TheVariants.{Known, Unknown}
 use Rattle.decode.specs.declared.Decoded.{Decoded}

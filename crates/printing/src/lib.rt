@@ -1,4 +1,6 @@
 // Counts printed as figures, in millionths.
+#![tactic(auto)]
+
 ghost use Rattle.std.specs.Prelude.{◌≡◌};
 ghost use Rattle.quantities.specs.Nearest.{millionths_of};
 

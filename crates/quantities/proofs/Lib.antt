@@ -1,2 +1,6 @@
 mod Signed
 mod Products
+pub mod Theorems
+pub mod Examples
+pub mod Circle
+pub mod Mls

@@ -38,7 +38,7 @@ count-back z negative size h e = ap (λ (y : ℤ). to_z w16 (of_z w16 y)) e ∙ 
 
 -- a count of 16 bits, widened to 64, and its size
 pub widened : (z : ℤ) → SFits w16 z → to_z w64 (of_z w64 (to_z w16 (of_z w16 z))) ≡ z
-widened z f = ap (λ (y : ℤ). to_z w64 (of_z w64 y)) (to_z-of_z f) ∙ to_z-of_z (sfits_widen tt f)
+widened z f = ap (λ (y : ℤ). to_z w64 (of_z w64 y)) (to_z-of_z {w = w16} f) ∙ to_z-of_z {w = w64} (sfits_widen {w = w16} tt f)
 
 pub count-size : (z : ℤ) → SFits w16 z → nat_abs z ≤ 32768
 count-size z f = nat_abs-le z f.sfits

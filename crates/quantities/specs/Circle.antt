@@ -1,21 +1,22 @@
 -- The azimuth: a value moved by whole turns is the value of a count moved by whole turns of counts, so the nearest of all whole
 -- numbers, less whole turns, is the nearest count round the circle.
-use Rattle.std.specs.Prelude.{◌≡◌, refl, ◌≢◌, ◌⊎◌, ◌↔◌, Bool, true, false, not, ℕ, zero, suc, ◌+◌, ◌-◌, ◌*◌, ◌/◌, ◌%◌, ◌≤◌, ◌<◌, ℤ, pos, negsuc, neg_ℤ, nat_abs, ◌+ℤ◌, ◌-ℤ◌, ◌*ℤ◌, ◌≤ℤ◌, ◌<ℤ◌}
-use Rattle.std.proofs.Common.{sym, ap, ap₂, subst, ◌∙◌, inl, inr, add-mul, one-mul, zero-mul, mul_assoc, mul-le-mul_right, mod-lt, div-add-mod', arith, leb→le, le→leb, ltb→lt, lt→ltb}
+use Rattle.std.specs.Prelude.{◌≡◌, refl, ◌⊎◌, ◌↔◌, Bool, true, false, not, ℕ, zero, suc, ◌+◌, ◌-◌, ◌*◌, ◌/◌, ◌%◌, ◌≤◌, ◌<◌, ℤ, pos, negsuc, neg_ℤ, nat_abs, ◌+ℤ◌, ◌-ℤ◌, ◌*ℤ◌, ◌≤ℤ◌, ◌<ℤ◌}
+use Rattle.std.proofs.Common.{sym, ap, subst, ◌∙◌, inl, inr, add-mul, zero-mul, mul_assoc, arith, leb→le, le→leb, ltb→lt, lt→ltb}
 use Rattle.std.proofs.Math.Nat.{mul-mod_left}
-use Rattle.std.proofs.Math.IntN.{+ℤ_assoc, +ℤ_idr, neg_ℤ-+ℤ}
+use Rattle.std.proofs.Math.IntN.{+ℤ_assoc, neg_ℤ-+ℤ}
 use Rattle.rounding.specs.Parts.{le-or-lt, is_negative, with_sign, positive_part, negative_part, nat_abs_parts, nat_abs_sub, positive_neg, negative_neg, positive_add, negative-add, positive_mul, negative-mul, parts-equal}
 use Rattle.rounding.specs.Rounding.{Even, error, Rounded, round_even_ℤ}
 use Rattle.rounding.specs.Laws as Laws
-use Rattle.rounding.specs.Laws.{Separate, same, below, above}
+use Rattle.rounding.specs.Laws.{below, above}
+use Rattle.rounding.proofs.Laws as RoundedLaws
 use Rattle.quantities.specs.declared.Scale.{Scale}
 use Rattle.quantities.specs.declared.Nearest.{Nearest}
 use Rattle.quantities.specs.declared.Nearest.TheVariants.{Count, OutOfReach}
 use Rattle.quantities.specs.Scale.{Sound, last_count}
 use Rattle.quantities.specs.Nearest.{rounded_count, turn_counts, wrap, farthest, circle_nearest}
-use Rattle.quantities.specs.Statements.{LegalCount, gap, gap_turned, Shortest, BeyondBy, Closest, Farther}
-use Rattle.quantities.specs.Sides.{legal_side, legal_signed, rest_of_turn, gap_sides, counted}
-use Rattle.quantities.specs.Cases.{circle_within, circle_beyond, wrap_same, wrap_other, less_if_other, count_same, refused-not-count}
+use Rattle.quantities.specs.Statements.{LegalCount, gap, gap_turned, Shortest, BeyondBy}
+use Rattle.quantities.specs.Sides.{legal_signed, rest_of_turn, counted}
+use Rattle.quantities.specs.Cases.{circle_within, circle_beyond, wrap_same, wrap_other, count_same, refused-not-count}
 
 -- what makes a scale one of a circle: its counts are 360 degrees, their number is even, and no count is past 180 degrees
 pub record Circular (s : Scale) : Type 0 where
@@ -30,16 +31,16 @@ pub record Circular (s : Scale) : Type 0 where
 balance : (x y : ℤ) → positive_part (x +ℤ y) + (negative_part x + negative_part y) ≡ negative_part (x +ℤ y) + (positive_part x + positive_part y)
 balance x y = omega (arith, positive_add x y, negative-add x y)
 
-with_sign-mul : (b : Bool) (n d : ℕ) → with_sign b n *ℤ pos d ≡ with_sign b (n * d)
+pub with_sign-mul : (b : Bool) (n d : ℕ) → with_sign b n *ℤ pos d ≡ with_sign b (n * d)
 with_sign-mul false n d = refl
 with_sign-mul true zero d = ap pos (zero-mul d) ∙ sym (ap (λ (x : ℕ). neg_ℤ (pos x)) (zero-mul d))
 with_sign-mul true (suc n) d = refl
 
-with_sign-add : (b : Bool) (m n : ℕ) → with_sign b m +ℤ with_sign b n ≡ with_sign b (m + n)
+pub with_sign-add : (b : Bool) (m n : ℕ) → with_sign b m +ℤ with_sign b n ≡ with_sign b (m + n)
 with_sign-add false m n = refl
 with_sign-add true m n = sym (neg_ℤ-+ℤ (pos m) (pos n))
 
-with_sign_cancel : (b : Bool) (m n : ℕ) → m ≤ n → with_sign (not b) m +ℤ with_sign b n ≡ with_sign b (n - m)
+pub with_sign_cancel : (b : Bool) (m n : ℕ) → m ≤ n → with_sign (not b) m +ℤ with_sign b n ≡ with_sign b (n - m)
 with_sign_cancel false m n h =
     parts-equal (neg_ℤ (pos m) +ℤ pos n) (pos (n - m))
     (omega (arith, balance (neg_ℤ (pos m)) (pos n), positive_neg (pos m), negative_neg (pos m)))
@@ -70,16 +71,16 @@ beyond (negsuc n) h = inl (record { lt = lt→ltb 179999999 n (omega (arith, h))
 
 -- a count, and whole turns of counts
 module _ (s : Scale) (circular : Circular s) where
-  abbrev moved : ℤ → ℤ → ℤ
+  abbrev pub moved : ℤ → ℤ → ℤ
   moved c t = c +ℤ t *ℤ pos (turn_counts s)
 
-  moved-parts : (c t : ℤ) → positive_part (moved c t) + (negative_part c + negative_part t * turn_counts s) ≡ negative_part (moved c t) + (positive_part c + positive_part t * turn_counts s)
+  pub moved-parts : (c t : ℤ) → positive_part (moved c t) + (negative_part c + negative_part t * turn_counts s) ≡ negative_part (moved c t) + (positive_part c + positive_part t * turn_counts s)
   moved-parts c t =
       omega
       (arith, balance c (t *ℤ pos (turn_counts s)), positive_mul t (turn_counts s), negative-mul t (turn_counts s))
 
   -- the value moved by whole turns is that of the moved count
-  gap-moved : (figure c t : ℤ) → gap_turned s figure c t ≡ gap s figure (moved c t)
+  pub gap-moved : (figure c t : ℤ) → gap_turned s figure c t ≡ gap s figure (moved c t)
   gap-moved figure c t =
       let turn : ℕ = 360000000 * s.denominator in
       omega (
@@ -98,28 +99,14 @@ module _ (s : Scale) (circular : Circular s) where
         ap (λ (x : ℕ). negative_part t * x) circular.whole,
       )
 
-  -- two legal counts that differ by whole turns are one
-  legal_once : (c o t u : ℤ) → LegalCount s c → LegalCount s o → moved c t ≡ moved o u → c ≡ o
-  legal_once c o t u lc lo e = go (Laws.separate t u (turn_counts s))
-    where
-      level : positive_part c + positive_part t * turn_counts s + (negative_part o + negative_part u * turn_counts s) ≡ positive_part o + positive_part u * turn_counts s + (negative_part c + negative_part t * turn_counts s)
-      level = omega (arith, moved-parts c t, moved-parts o u, ap positive_part e, ap negative_part e)
-
-      go : Separate t u (turn_counts s) → c ≡ o
-      go (same f) =
-          parts-equal c o
-          (omega (arith, level, ap (λ (x : ℤ). positive_part x * turn_counts s) f, ap (λ (x : ℤ). negative_part x * turn_counts s) f))
-      go (below l h) = absurd (omega (arith, level, h, legal_side s c lc false, legal_side s o lo true))
-      go (above l h) = absurd (omega (arith, level, h, legal_side s o lo false, legal_side s c lc true))
-
   -- whole turns do not change whether a count is even
-  even_moved : (c t : ℤ) → Even (moved c t) → Even c
+  pub even_moved : (c t : ℤ) → Even (moved c t) → Even c
   even_moved c t h =
       omega
       (arith, h, nat_abs_parts c, nat_abs_parts (moved c t), moved-parts c t, even_multiple (positive_part t) (turn_counts s) circular.even, even_multiple (negative_part t) (turn_counts s) circular.even)
 
   -- a wrapped count is legal, and moved by some whole turns it is the count again
-  wrapped_legal : (b : Bool) (count : ℕ) → LegalCount s (wrap s b count)
+  pub wrapped_legal : (b : Bool) (count : ℕ) → LegalCount s (wrap s b count)
   wrapped_legal b count = go (le-or-lt (count % turn_counts s) (last_count s b))
     where
       go : (count % turn_counts s ≤ last_count s b) ⊎ (last_count s b < count % turn_counts s) → LegalCount s (wrap s b count)
@@ -127,31 +114,6 @@ module _ (s : Scale) (circular : Circular s) where
       go (inr h) =
           rw (wrap_other s b count h)
           (legal_signed s (not b) (turn_counts s - count % turn_counts s) (rest_of_turn s b (count % turn_counts s) h))
-
-  wrapped_turns : (b : Bool) (count : ℕ) → (t : ℤ) × (moved (wrap s b count) t ≡ with_sign b count)
-  wrapped_turns b count = go (le-or-lt (count % turn_counts s) (last_count s b))
-    where
-      whole : count / turn_counts s * turn_counts s + count % turn_counts s ≡ count
-      whole = div-add-mod' count (turn_counts s)
-
-      less : count % turn_counts s < turn_counts s
-      less = mod-lt count (omega arith)
-
-      go : (count % turn_counts s ≤ last_count s b) ⊎ (last_count s b < count % turn_counts s) → (t : ℤ) × (moved (wrap s b count) t ≡ with_sign b count)
-      go (inl h) = (
-        with_sign b (count / turn_counts s),
-        ap₂ (λ (x y : ℤ). x +ℤ y) (wrap_same s b count h) (with_sign-mul b (count / turn_counts s) (turn_counts s))
-            ∙ with_sign-add b (count % turn_counts s) (count / turn_counts s * turn_counts s)
-            ∙ ap (with_sign b) (omega (arith, whole)),
-      )
-      go (inr h) = (
-        with_sign b (count / turn_counts s + 1),
-        ap₂ (λ (x y : ℤ). x +ℤ y) (wrap_other s b count h) (with_sign-mul b (count / turn_counts s + 1) (turn_counts s))
-            ∙ with_sign_cancel b (turn_counts s - count % turn_counts s) ((count / turn_counts s + 1) * turn_counts s)
-            (omega (arith, add-mul (count / turn_counts s) 1 (turn_counts s), one-mul (turn_counts s)))
-            ∙ ap (with_sign b)
-            (omega (arith, whole, less, add-mul (count / turn_counts s) 1 (turn_counts s), one-mul (turn_counts s))),
-      )
 
 -- ---- the shorter way round
 
@@ -165,7 +127,7 @@ shortest s k figure c = (
   record {
     turns = turns;
     reached = refl;
-    least = λ t. omega (arith, as_error turns, as_error t, Laws.nearest (Laws.rounded difference turn (omega (arith, k.divisor))) t);
+    least = λ t. omega (arith, as_error turns, as_error t, Laws.nearest (RoundedLaws.rounded difference turn (omega (arith, k.divisor))) t);
   },
 )
   where
@@ -182,74 +144,28 @@ shortest s k figure c = (
     as_error t = ap nat_abs (sub-sum (figure *ℤ pos s.denominator) (c *ℤ pos s.numerator) (t *ℤ pos turn))
 
 module _ (s : Scale) (k : Sound s) (circular : Circular s) (figure : ℤ) where
-  abbrev negative : Bool
+  abbrev pub negative : Bool
   negative = is_negative figure
 
-  abbrev count : ℕ
+  abbrev pub count : ℕ
   count = rounded_count s (nat_abs figure)
 
-  abbrev coded-count : ℤ
+  abbrev pub coded-count : ℤ
   coded-count = wrap s negative count
 
-  rounded : Rounded (figure *ℤ pos s.denominator) s.numerator (with_sign negative count)
+  pub rounded : Rounded (figure *ℤ pos s.denominator) s.numerator (with_sign negative count)
   rounded = counted s k figure
 
-  -- the coded count is the rounded one, moved by whole turns
-  abbrev back : ℤ
-  back = (wrapped_turns s circular negative count).0
-
-  again : moved s circular coded-count back ≡ with_sign negative count
-  again = (wrapped_turns s circular negative count).1
-
-  at_most : (d : ℕ) → Shortest s figure coded-count d → d ≤ gap s figure (with_sign negative count)
-  at_most d p = omega (arith, p.least back, gap-moved s circular figure coded-count back, ap (gap s figure) again)
-
-  closest : Closest true s figure coded-count
-  closest =
-      record {
-        legal = wrapped_legal s circular negative count;
-        nearest = λ other l d e p q. omega (arith, at_most d p, q.reached, gap-moved s circular figure other q.turns, Laws.nearest rounded (moved s circular other q.turns));
-        even = λ other l ne d p q.
-            even_moved s circular coded-count back
-            (subst Even (sym again)
-            (Laws.tie rounded (moved s circular other q.turns)
-            (λ e. ne (legal_once s circular other coded-count q.turns back l (wrapped_legal s circular negative count) (e ∙ sym again)))
-            (omega (arith, at_most d p, q.reached, gap-moved s circular figure other q.turns, Laws.nearest rounded (moved s circular other q.turns)))));
-      }
-
-  abbrev answer : Nearest
+  abbrev pub answer : Nearest
   answer = circle_nearest s negative (nat_abs figure)
 
   -- what holds of the coded count holds of the answer
-  answered : (P : ℤ → Type 0) → P coded-count → (c : ℤ) → answer ≡ Count c → P c
+  pub answered : (P : ℤ → Type 0) → P coded-count → (c : ℤ) → answer ≡ Count c → P c
   answered P p c e = go (le-or-lt (nat_abs figure) (farthest negative))
     where
       go : (nat_abs figure ≤ farthest negative) ⊎ (farthest negative < nat_abs figure) → P c
       go (inl h) = subst P (count_same (sym (circle_within s negative (nat_abs figure) h) ∙ e)) p
       go (inr h) = absurd (refused-not-count (sym (circle_beyond s negative (nat_abs figure) h) ∙ e))
-
-  pub circle_coded : (c : ℤ) → answer ≡ Count c → Closest true s figure c
-  circle_coded = answered (Closest true s figure) closest
-
-  -- where a figure is half a step from no count, the coded count is alone nearest
-  alone : ((c : ℤ) → 2 * gap s figure c ≢ s.numerator) → Farther true s figure coded-count
-  alone never other l ne d e p q = go (le-or-lt e d)
-    where
-      other_moved : ℤ
-      other_moved = moved s circular other q.turns
-
-      go : (e ≤ d) ⊎ (d < e) → d < e
-      go (inl h) =
-          absurd
-          (ne
-          (legal_once s circular other coded-count q.turns back l (wrapped_legal s circular negative count)
-          (Laws.alone rounded other_moved
-          (less_if_other (omega (arith, h, at_most d p, q.reached, gap-moved s circular figure other q.turns, rounded.near)) (never other_moved))
-          ∙ sym again)))
-      go (inr h) = h
-
-  pub circle_untied : ((c : ℤ) → 2 * gap s figure c ≢ s.numerator) → (c : ℤ) → answer ≡ Count c → Farther true s figure c
-  circle_untied never = answered (Farther true s figure) (alone never)
 
   pub circle_refused : (answer ≡ OutOfReach) ↔ BeyondBy true s figure
   circle_refused = go (le-or-lt (nat_abs figure) (farthest negative))
@@ -258,32 +174,3 @@ module _ (s : Scale) (k : Sound s) (circular : Circular s) (figure : ℤ) where
       go (inl h) =
           (λ e. absurd (refused-not-count (sym e ∙ circle_within s negative (nat_abs figure) h)), λ b. absurd (taken figure h b))
       go (inr h) = (λ _. beyond figure h, λ _. circle_beyond s negative (nat_abs figure) h)
-
-  -- a legal count that lies less than half a step, and at most half a millionth, away is the coded one
-  pub circle_alone : (c : ℤ) → LegalCount s c → 2 * gap s figure c < s.numerator → 2 * gap s figure c ≤ s.denominator → answer ≡ Count c
-  circle_alone c l near fine =
-      circle_within s negative (nat_abs figure) (half_turn negative size)
-      ∙ ap Count
-      (legal_once s circular coded-count c (wrapped_turns s circular negative count).0 (pos 0) (wrapped_legal s circular negative count) l
-      ((wrapped_turns s circular negative count).1 ∙ sym (Laws.alone rounded c near) ∙ sym (unmoved c)))
-    where
-      unmoved : (c : ℤ) → c +ℤ pos (0 * turn_counts s) ≡ c
-      unmoved c = ap (λ (x : ℕ). c +ℤ pos x) (zero-mul (turn_counts s)) ∙ +ℤ_idr c
-
-      half_turn : (b : Bool) → nat_abs figure ≤ 180000000 → nat_abs figure ≤ farthest b
-      half_turn true h = h
-      half_turn false h = omega (arith, h)
-
-      last : (b : Bool) → last_count s b * s.numerator ≤ 180000000 * s.denominator
-      last true = circular.below_half
-      last false = circular.above_half
-
-      size : nat_abs figure ≤ 180000000
-      size = go (le-or-lt (nat_abs figure) 180000000)
-        where
-          go : (nat_abs figure ≤ 180000000) ⊎ (180000000 < nat_abs figure) → nat_abs figure ≤ 180000000
-          go (inl h) = h
-          go (inr h) =
-              absurd
-              (omega
-              (arith, fine, k.divisor, last negative, mul-le-mul_right s.numerator (legal_side s c l negative), mul-le-mul_right {m = 180000001} s.denominator h, gap_sides s figure c))

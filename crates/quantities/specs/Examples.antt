@@ -1,12 +1,11 @@
 -- Worked figures in millionths, beside the starred lines (crate `demands`): an MLS figure below 0, an azimuth just below a whole turn, and the
 -- ties of printing, which go to the even millionth.
-use Rattle.std.specs.Prelude.{◌≡◌, refl, List, [], ◌∷◌, map, ℤ, pos, neg_ℤ}
-use Rattle.rounding.specs.Rounding.{round_even}
+use Rattle.std.specs.Prelude.{List, [], ◌∷◌, ℤ, pos, neg_ℤ}
 use Rattle.quantities.specs.declared.Quantity.{Quantity}
 use Rattle.quantities.specs.declared.Quantity.TheVariants.{Azimuth, MlsAzimuth, MlsGlide}
 use Rattle.quantities.specs.declared.Nearest.{Nearest}
 use Rattle.quantities.specs.declared.Nearest.TheVariants.{Count}
-use Rattle.quantities.specs.Nearest.{line_nearest, wrap, circle_nearest, nearest_count, millionths_of}
+use Rattle.quantities.specs.Nearest.{nearest_count, millionths_of}
 
 -- a quantity, a figure and its answer; or a quantity, a count and its millionths
 pub data Example : Type 0 where
@@ -28,8 +27,3 @@ examples =
 unfoldable pub computed : Example → Example
 computed (codes q figure r) = codes q figure (nearest_count q figure)
 computed (prints q c m) = prints q c (millionths_of q c)
-
--- every answer is the computed one
-pub examples_hold : map computed examples ≡ examples
-unfolding examples computed nearest_count millionths_of line_nearest circle_nearest wrap round_even
-examples_hold = refl

@@ -1,14 +1,11 @@
 -- How far the MLS figures reach, in millionths (request 3 of document 02).
-use Rattle.std.specs.Prelude.{◌≡◌, refl, ◌⊎◌, ◌↔◌, ◌<◌, ℤ, pos, negsuc, neg_ℤ, nat_abs, ◌<ℤ◌}
-use Rattle.std.proofs.Common.{inl, inr, arith, ltb→lt, lt→ltb}
+use Rattle.std.specs.Prelude.{◌≡◌, ◌⊎◌, ◌<◌, ℤ, pos, negsuc, neg_ℤ, nat_abs, ◌<ℤ◌}
+use Rattle.std.proofs.Common.{inl, inr, arith, ltb→lt}
 use Rattle.rounding.specs.Parts.{is_negative}
 use Rattle.quantities.specs.declared.Quantity.{Quantity}
 use Rattle.quantities.specs.declared.Quantity.TheVariants.{MlsAzimuth, MlsGlide}
-use Rattle.quantities.specs.declared.Nearest.TheVariants.{OutOfReach}
-use Rattle.quantities.specs.Scale.{mls_scale, sound}
-use Rattle.quantities.specs.Nearest.{reach, line_nearest, nearest_count}
-use Rattle.quantities.specs.Cases.{nearest_line}
-use Rattle.quantities.specs.Line.{line_past}
+use Rattle.quantities.specs.Scale.{mls_scale}
+use Rattle.quantities.specs.Nearest.{reach}
 
 -- the two MLS deviations
 abbrev pub IsMls : Quantity → Type 0
@@ -18,22 +15,8 @@ IsMls q = (q ≡ MlsAzimuth) ⊎ (q ≡ MlsGlide)
 abbrev pub BeyondMls : ℤ → Type 0
 BeyondMls figure = (figure <ℤ neg_ℤ (pos 2400036621)) ⊎ (pos 2399963378 <ℤ figure)
 
-beyond : (figure : ℤ) → reach mls_scale (is_negative figure) < nat_abs figure → BeyondMls figure
-beyond (pos n) h = inr (record { lt = lt→ltb 2399963378 n (omega (arith, h)) })
-beyond (negsuc n) h = inl (record { lt = lt→ltb 2400036620 n (omega (arith, h)) })
-
-past : (figure : ℤ) → BeyondMls figure → reach mls_scale (is_negative figure) < nat_abs figure
+pub past : (figure : ℤ) → BeyondMls figure → reach mls_scale (is_negative figure) < nat_abs figure
 past (pos n) (inl b) = absurd b.lt
 past (pos n) (inr b) = omega (arith, ltb→lt 2399963378 n b.lt)
 past (negsuc n) (inl b) = omega (arith, ltb→lt 2400036620 n b.lt)
 past (negsuc n) (inr b) = absurd b.lt
-
-on_scale : (figure : ℤ) → (line_nearest mls_scale (is_negative figure) (nat_abs figure) ≡ OutOfReach) ↔ BeyondMls figure
-on_scale figure =
-    let refused = line_past mls_scale (sound MlsAzimuth) figure in
-    (λ e. beyond figure (refused.0 e), λ b. refused.1 (past figure b))
-
--- "The figure 2399963378 is coded and 2399963379 refused; -2400036621 is coded and -2400036622 refused": a figure is out of reach exactly past these
-pub mls-reach : (q : Quantity) → IsMls q → (figure : ℤ) → (nearest_count q figure ≡ OutOfReach) ↔ BeyondMls figure
-mls-reach q (inl e) figure = rw (e, nearest_line MlsAzimuth figure refl) (on_scale figure)
-mls-reach q (inr e) figure = rw (e, nearest_line MlsGlide figure refl) (on_scale figure)

@@ -1,10 +1,12 @@
+#![tactic(auto)]
+
 ghost use Rattle.std.specs.Prelude.{◌≡◌, ◌≤◌, ◌<◌, ◌^◌, min};
 ghost use Rattle.rounding.specs.Parts.{with_sign};
 ghost use Rattle.quantities.specs.Scale.{thirteen_bits, mls_scale, scale_of, on_circle, last_count, widest, Sound};
 ghost use Rattle.quantities.specs.Nearest.{line_nearest, wrap, farthest, circle_nearest, nearest_count, millionths_of};
 
 // The five measured quantities: VOR azimuth, ILS course and glide deviation, MLS azimuth and glide deviation.
-#[derive(Drop)]
+#[derive(Clone, Copy)]
 pub enum Quantity {
     Azimuth,
     Course,
@@ -14,7 +16,7 @@ pub enum Quantity {
 }
 
 // A step of numerator / denominator millionths, and the legal counts from -below to above.
-#[derive(Drop)]
+#[derive(Clone, Copy)]
 pub struct Scale {
     pub numerator: u64,
     pub denominator: u64,
@@ -23,7 +25,7 @@ pub struct Scale {
 }
 
 // The count nearest to a figure, or none within reach.
-#[derive(Drop)]
+#[derive(Clone, Copy)]
 pub enum Nearest {
     Count(i16),
     OutOfReach,

@@ -1,3 +1,1 @@
--- What the proofs of a reader's functions share.
-pub mod Thin
-pub mod Held
+pub mod Fields

@@ -1,8 +1,10 @@
 // What a reader of a sheet holds: the sheet and where the walk stands, together.
+#![tactic(auto)]
+
 use walk::Walk;
 
 // A sheet and where the walk over it stands.
-#[derive(Drop)]
+#[derive(Clone, Copy)]
 pub struct Reader<'a> {
     pub sheet: &'a [u8],
     pub at: Walk,

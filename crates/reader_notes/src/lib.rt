@@ -1,4 +1,6 @@
 // The notes of the sheet that a reader holds.
+#![tactic(auto)]
+
 ghost use Rattle.std.specs.Prelude.{◌≡◌};
 ghost use Rattle.fields.specs.Run.{sheet_of};
 ghost use Rattle.notes.specs.Note.{note_of, text_of, found_of, span_of, PartOf};

@@ -3,7 +3,8 @@
 -- Assumes nothing.
 use Rattle.std.proofs.Common.{inl, inr, lit<}
 use Rattle.std.specs.Prelude.{◌*◌, ℤ, pos, ◌*ℤ◌, Float}
-use Rattle.doubles.specs.Exact.{IsExactly, exact_expanded}
+use Rattle.doubles.specs.Exact.{IsExactly}
+use Rattle.doubles.proofs.Exact.{exact_expanded}
 use Rattle.quantities.specs.Mls.{IsMls}
 use Rattle.quantities.specs.Scale.{scale_of}
 use Rattle.quantities.specs.declared.Quantity.{Quantity}

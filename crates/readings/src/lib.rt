@@ -1,8 +1,10 @@
 // What a record reads: degrees, depth difference, millivolts, a frequency or a setting. The definitions and their laws stand in specs/.
+#![tactic(auto)]
+
 use views::Setting;
 
 // A quantity with its unit (document 01's term is a reading).
-#[derive(Drop)]
+#[derive(Clone, Copy)]
 pub enum Reading {
     // an azimuth, in degrees
     Degrees(f64),
@@ -17,7 +19,7 @@ pub enum Reading {
 }
 
 // The reading of a record, marked where it comes from a test, or none.
-#[derive(Drop)]
+#[derive(Clone, Copy)]
 pub enum Shown {
     Ready(Reading),
     Test(Reading),

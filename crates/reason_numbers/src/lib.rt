@@ -1,4 +1,6 @@
 // The numbers of the reasons.
+#![tactic(auto)]
+
 ghost use Rattle.std.specs.Prelude.{◌≡◌};
 ghost use Rattle.reasons.specs.Reasons.{number_of};
 

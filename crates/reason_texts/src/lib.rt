@@ -1,4 +1,6 @@
 // The text of a reason, into a buffer: what fits is stored and all is counted, as in the crate `text`.
+#![tactic(auto)]
+
 ghost use Rattle.text.specs.Writing.{Writes};
 ghost use Rattle.reason_texts.specs.ReasonTexts.{reason_text, because_text};
 

@@ -1,27 +1,26 @@
 -- The reason that is found is the one that is told, and no other: it is true, and no earlier one is.
 -- Assumes nothing.
 use Rattle.std.specs.Prelude.{◌≡◌, Bool, false, not, cond, List, [], ◌∷◌, ◌⊎◌, ◌↔◌, ℕ, zero, suc, ◌*◌, ◌/◌, ◌%◌, ◌≤◌, ◌<◌, eqb, ℤ, pos, negsuc, neg_ℤ, nat_abs, ◌*ℤ◌}
-use Rattle.std.proofs.Math.Path.{refl, ap, subst, subst⁻¹}
-use Rattle.std.proofs.Common.{sym, ap₂, ◌∙◌, inl, inr, zero-mul, mul-pos, mul-div_cancel, div-add-mod', arith, eqb-true, eq-eqb, lit≤, lit<}
+use Rattle.std.proofs.Math.Path.{refl, ap}
+use Rattle.std.proofs.Common.{sym, ap₂, ◌∙◌, inl, inr, zero-mul, mul-pos, mul-div_cancel, div-add-mod', arith}
 use Rattle.std.proofs.Math.Bool.{true}
-use Rattle.std.proofs.lemmas.Bool.{false≢true}
 use Rattle.std.proofs.Math.Nat.{mul-mod_left}
-use Rattle.std.proofs.Math.Decide.{dec_le}
 use Rattle.rounding.specs.Parts.{is_negative, with_sign, with_sign_nat_abs, nat_abs_with_sign}
-use Rattle.signed_numbers.specs.Signed.{Fits, signed_of, signed_exactly}
+use Rattle.signed_numbers.specs.Signed.{Fits, signed_of}
+use Rattle.signed_numbers.proofs.SignedTheorems.{signed_exactly}
 use Rattle.signed_numbers.specs.declared.Signed.{Signed}
 use Rattle.reasons.specs.declared.Reason.{Reason}
-use Rattle.reasons.specs.declared.Reason.TheVariants.{Agrees, Tenth, Hundredth, Thousandth, TenTimes, HundredTimes, ThousandTimes, OtherSign, NoneOfThese}
+use Rattle.reasons.specs.declared.Reason.TheVariants.{NoneOfThese}
 use Rattle.reasons.specs.declared.Scaled.{Scaled}
-use Rattle.reasons.specs.Reasons.{number_of, Replaces, Agreeing, Holds, Told}
-use Rattle.reasons.specs.Scaled.{scaled_to, part_of, multiple_of, opposite_of, scaled_for, asked, first_of, scaled_agrees, reason_of}
+use Rattle.reasons.specs.Reasons.{number_of}
+use Rattle.reasons.specs.Scaled.{scaled_to, first_of}
 
-clash : {A : Type 0} → ◌≡◌ {A = ℕ} 0 1 → A
+pub clash : {A : Type 0} → ◌≡◌ {A = ℕ} 0 1 → A
 clash z = absurd (omega arith)
 
 -- ---- the figure that a reason puts in its place
 
-scaled_exactly : (negative : Bool) (size : ℕ) (m : ℤ) → (scaled_to (signed_of negative size) ≡ Scaled.Figure m) ↔ ((m ≡ with_sign negative size) × Fits m)
+pub scaled_exactly : (negative : Bool) (size : ℕ) (m : ℤ) → (scaled_to (signed_of negative size) ≡ Scaled.Figure m) ↔ ((m ≡ with_sign negative size) × Fits m)
 scaled_exactly negative size m = (there (signed_of negative size) refl, λ h. ap scaled_to ((signed_exactly negative size m).1 h))
   where
     there : (s : Signed) → signed_of negative size ≡ s → scaled_to s ≡ Scaled.Figure m → (m ≡ with_sign negative size) × Fits m
@@ -29,11 +28,11 @@ scaled_exactly negative size m = (there (signed_of negative size) refl, λ h. ap
     there Signed.TooLarge d e = clash (cc)
 
 -- a multiple of a signed number, by its sign and size
-with-sign_times : (z : ℤ) (n : ℕ) → with_sign (is_negative z) (nat_abs z * n) ≡ z *ℤ pos n
+pub with-sign_times : (z : ℤ) (n : ℕ) → with_sign (is_negative z) (nat_abs z * n) ≡ z *ℤ pos n
 with-sign_times (pos a) n = refl
 with-sign_times (negsuc a) n = refl
 
-with-sign_opposite : (z : ℤ) → with_sign (not (is_negative z)) (nat_abs z) ≡ neg_ℤ z
+pub with-sign_opposite : (z : ℤ) → with_sign (not (is_negative z)) (nat_abs z) ≡ neg_ℤ z
 with-sign_opposite (pos a) = refl
 with-sign_opposite (negsuc a) = refl
 
@@ -47,7 +46,7 @@ minus_negative zero h = absurd (omega arith)
 minus_negative (suc x) h = refl
 
 -- where n divides a size, n times the n-th part is the number, and the n-th part of n times a number is that number
-part-back : (z : ℤ) (n : ℕ) → nat_abs z % n ≡ 0 → with_sign (is_negative z) (nat_abs z / n) *ℤ pos n ≡ z
+pub part-back : (z : ℤ) (n : ℕ) → nat_abs z % n ≡ 0 → with_sign (is_negative z) (nat_abs z / n) *ℤ pos n ≡ z
 part-back (pos a) n e = ap pos (omega (arith, div-add-mod' a n))
 part-back (negsuc a) n e =
     let whole : suc a / n * n ≡ suc a = omega (arith, div-add-mod' (suc a) n) in
@@ -61,88 +60,28 @@ times_sign : (m : ℤ) (n : ℕ) → 0 < n → is_negative (m *ℤ pos n) ≡ is
 times_sign (pos a) n h = refl
 times_sign (negsuc a) n h = minus_negative (suc a * n) (mul-pos (omega arith) h)
 
-divides : (m : ℤ) (n : ℕ) → nat_abs (m *ℤ pos n) % n ≡ 0
+pub divides : (m : ℤ) (n : ℕ) → nat_abs (m *ℤ pos n) % n ≡ 0
 divides m n = ap (λ (x : ℕ). x % n) (times_size m n) ∙ mul-mod_left (nat_abs m) n
 
-part-of_times : (m : ℤ) (n : ℕ) → 0 < n → with_sign (is_negative (m *ℤ pos n)) (nat_abs (m *ℤ pos n) / n) ≡ m
+pub part-of_times : (m : ℤ) (n : ℕ) → 0 < n → with_sign (is_negative (m *ℤ pos n)) (nat_abs (m *ℤ pos n) / n) ≡ m
 part-of_times m n h =
     ap₂ with_sign (times_sign m n h) (ap (λ (x : ℕ). x / n) (times_size m n) ∙ mul-div_cancel (nat_abs m) h) ∙ with_sign_nat_abs m
-
-part_exactly : (n : ℕ) (z m : ℤ) → 0 < n → (part_of n z ≡ Scaled.Figure m) ↔ ((m *ℤ pos n ≡ z) × Fits m)
-part_exactly n z m h = (there (eqb (nat_abs z % n) 0) refl, here)
-  where
-    there : (b : Bool) → eqb (nat_abs z % n) 0 ≡ b → cond b (scaled_to (signed_of (is_negative z) (nat_abs z / n))) Scaled.Nothing ≡ Scaled.Figure m
-        → (m *ℤ pos n ≡ z) × Fits m
-    there true t e =
-        let k = (scaled_exactly (is_negative z) (nat_abs z / n) m).0 e in
-        (ap (λ (x : ℤ). x *ℤ pos n) k.0 ∙ part-back z n (eqb-true (nat_abs z % n) 0 t), k.1)
-    there false t e = clash (cc)
-
-    here : (m *ℤ pos n ≡ z) × Fits m → part_of n z ≡ Scaled.Figure m
-    here k = subst (λ (x : ℤ). part_of n x ≡ Scaled.Figure m) k.0
-        (rw (eq-eqb (nat_abs (m *ℤ pos n) % n) 0 (divides m n))
-        ((scaled_exactly (is_negative (m *ℤ pos n)) (nat_abs (m *ℤ pos n) / n) m).1 (sym (part-of_times m n h), k.1)))
-
-multiple_exactly : (n : ℕ) (z m : ℤ) → (multiple_of n z ≡ Scaled.Figure m) ↔ ((m ≡ z *ℤ pos n) × Fits m)
-multiple_exactly n z m =
-    let k = scaled_exactly (is_negative z) (nat_abs z * n) m in
-    (λ e. ((k.0 e).0 ∙ with-sign_times z n, (k.0 e).1), λ h. k.1 (h.0 ∙ sym (with-sign_times z n), h.1))
-
-opposite_exactly : (z m : ℤ) → (opposite_of z ≡ Scaled.Figure m) ↔ ((m ≡ neg_ℤ z) × Fits m)
-opposite_exactly z m =
-    let k = scaled_exactly (not (is_negative z)) (nat_abs z) m in
-    (λ e. ((k.0 e).0 ∙ with-sign_opposite z, (k.0 e).1), λ h. k.1 (h.0 ∙ sym (with-sign_opposite z), h.1))
-
--- What a reason puts in the place of a figure is what the code computes for it.
-pub replaced_exactly : (r : Reason) (z m : ℤ) → Fits z → (scaled_for r z ≡ Scaled.Figure m) ↔ (Replaces r z m × Fits m)
-replaced_exactly Agrees z m f = (λ e. let same : m ≡ z = cc in (same, subst⁻¹ Fits same f), λ h. ap Scaled.Figure (sym h.0))
-replaced_exactly Tenth z m f = part_exactly 10 z m (lit< tt)
-replaced_exactly Hundredth z m f = part_exactly 100 z m (lit< tt)
-replaced_exactly Thousandth z m f = part_exactly 1000 z m (lit< tt)
-replaced_exactly TenTimes z m f = multiple_exactly 10 z m
-replaced_exactly HundredTimes z m f = multiple_exactly 100 z m
-replaced_exactly ThousandTimes z m f = multiple_exactly 1000 z m
-replaced_exactly OtherSign z m f = opposite_exactly z m
-replaced_exactly NoneOfThese z m f = (λ e. clash (cc), λ h. absurd h.0)
 
 -- ---- the reasons and their numbers
 
 -- the reasons of a list have these numbers, one after the other
-abbrev Numbered : ℕ → List Reason → Type 0
+abbrev pub Numbered : ℕ → List Reason → Type 0
 Numbered k [] = Unit {0}
 Numbered k (r ∷ rs) = (number_of r ≡ k) × Numbered (suc k) rs
 
-abbrev Member : Reason → List Reason → Type 0
+abbrev pub Member : Reason → List Reason → Type 0
 Member s [] = ⊥
 Member s (r ∷ rs) = (s ≡ r) ⊎ Member s rs
 
 -- the reason of a list that has this number
-abbrev reason_at : ℕ → List Reason → Reason
+abbrev pub reason_at : ℕ → List Reason → Reason
 reason_at n [] = NoneOfThese
 reason_at n (r ∷ rs) = cond (eqb n (number_of r)) r (reason_at n rs)
-
--- the eight are asked in the order of their numbers
-in_order : Numbered 1 asked
-in_order = (refl, (refl, (refl, (refl, (refl, (refl, (refl, (refl, tt))))))))
-
--- what is told of each: it is the one of its number, it is asked or is the last, and its number is 1 to 9
-each : (r : Reason) → (reason_at (number_of r) asked ≡ r) × (Member r asked ⊎ (r ≡ NoneOfThese)) × (1 ≤ number_of r) × (number_of r ≤ 9)
-each Agrees = (refl, inl (inl refl), lit≤ tt, lit≤ tt)
-each Tenth = (refl, inl (inr (inl refl)), lit≤ tt, lit≤ tt)
-each Hundredth = (refl, inl (inr (inr (inl refl))), lit≤ tt, lit≤ tt)
-each Thousandth = (refl, inl (inr (inr (inr (inl refl)))), lit≤ tt, lit≤ tt)
-each TenTimes = (refl, inl (inr (inr (inr (inr (inl refl))))), lit≤ tt, lit≤ tt)
-each HundredTimes = (refl, inl (inr (inr (inr (inr (inr (inl refl)))))), lit≤ tt, lit≤ tt)
-each ThousandTimes = (refl, inl (inr (inr (inr (inr (inr (inr (inl refl))))))), lit≤ tt, lit≤ tt)
-each OtherSign = (refl, inl (inr (inr (inr (inr (inr (inr (inr (inl refl)))))))), lit≤ tt, lit≤ tt)
-each NoneOfThese = (refl, inr refl, lit≤ tt, lit≤ tt)
-
-pub number-bounds : (r : Reason) → (1 ≤ number_of r) × (number_of r ≤ 9)
-number-bounds r = ((each r).2, (each r).3)
-
--- No two reasons have one number.
-pub one_number : (r s : Reason) → number_of r ≡ number_of s → r ≡ s
-one_number r s e = sym (each r).0 ∙ ap (λ (n : ℕ). reason_at n asked) e ∙ (each s).0
 
 later : (k : ℕ) (rs : List Reason) → Numbered k rs → (s : Reason) → Member s rs → k ≤ number_of s
 later k [] n s m = absurd m
@@ -153,7 +92,7 @@ later k (r ∷ rs) n s (inr m) = omega (arith, later (suc k) rs n.1 s m)
 
 module _ (passes : Reason → Bool) where
   -- it passes, or is the last
-  found_passes : (rs : List Reason) → (passes (first_of passes rs) ≡ true) ⊎ (first_of passes rs ≡ NoneOfThese)
+  pub found_passes : (rs : List Reason) → (passes (first_of passes rs) ≡ true) ⊎ (first_of passes rs ≡ NoneOfThese)
   found_passes [] = inr refl
   found_passes (r ∷ rs) = go (passes r) refl (found_passes rs)
     where
@@ -163,7 +102,7 @@ module _ (passes : Reason → Bool) where
       go false e rest = rest
 
   -- and none with a lower number does
-  found_first : (k : ℕ) (rs : List Reason) → Numbered k rs → (s : Reason) → Member s rs → number_of s < number_of (first_of passes rs) → passes s ≡ false
+  pub found_first : (k : ℕ) (rs : List Reason) → Numbered k rs → (s : Reason) → Member s rs → number_of s < number_of (first_of passes rs) → passes s ≡ false
   found_first k [] n s m h = absurd m
   found_first k (r ∷ rs) n s m h = go (passes r) refl m h (found_first (suc k) rs n.1 s)
     where
@@ -175,56 +114,3 @@ module _ (passes : Reason → Bool) where
       go false e (inr m) h rest = rest m h
 
 -- ---- the reason that is told
-
-module _ (agrees : ℤ → Bool) (z : ℤ) where
-  -- two that are told are one: neither has the lower number
-  told_once : (r s : Reason) → Told agrees z r → Told agrees z s → r ≡ s
-  told_once r s t u = one_number r s (go (dec_le (number_of r) (number_of s)) (dec_le (number_of s) (number_of r)))
-    where
-      go : Dec (number_of r ≤ number_of s) → Dec (number_of s ≤ number_of r) → number_of r ≡ number_of s
-      go (yes h) (yes k) = omega arith
-      go (yes h) (no k) = absurd (u.none_earlier r (omega arith) t.holds)
-      go (no h) k = absurd (t.none_earlier s (omega arith) u.holds)
-
-  -- the first of those asked is told, by a test that a reason passes exactly where its figure agrees
-  module _ (passes : Reason → Bool) (exactly : (r : Reason) → (passes r ≡ true) ↔ Agreeing agrees z r)
-      (rs : List Reason) (numbered : Numbered 1 rs) (listed : (s : Reason) → Member s rs ⊎ (s ≡ NoneOfThese)) where
-    none-agrees : (s : Reason) → number_of s < number_of (first_of passes rs) → Agreeing agrees z s → ⊥
-    none-agrees s h k = go (listed s)
-      where
-        go : Member s rs ⊎ (s ≡ NoneOfThese) → ⊥
-        go (inl m) = false≢true (sym (found_first passes 1 rs numbered s m h) ∙ (exactly s).1 k)
-        go (inr e) = subst (λ (r : Reason). Replaces r z k.0) e k.1
-
-    none_at_all : first_of passes rs ≡ NoneOfThese → (s : Reason) → Agreeing agrees z s → ⊥
-    none_at_all e s k = go (dec_le 9 (number_of s))
-      where
-        go : Dec (9 ≤ number_of s) → ⊥
-        go (yes h) = subst (λ (r : Reason). Replaces r z k.0) (one_number s NoneOfThese (omega (arith, (number-bounds s).1))) k.1
-        go (no h) = let nine : number_of (first_of passes rs) ≡ 9 = ap number_of e in none-agrees s (omega arith) k
-
-    first_holds : (passes (first_of passes rs) ≡ true) ⊎ (first_of passes rs ≡ NoneOfThese) → Holds agrees z (first_of passes rs)
-    first_holds (inl p) = inl ((exactly (first_of passes rs)).0 p)
-    first_holds (inr e) = inr (e, none_at_all e)
-
-    first-told : Told agrees z (first_of passes rs)
-    first-told = record {
-      holds = first_holds (found_passes passes rs);
-      none_earlier = λ s h k. elim k [ inl a ↦ none-agrees s h a | inr last ↦ let nine : number_of s ≡ 9 = ap number_of last.0 in omega (arith, (number-bounds (first_of passes rs)).1) ];
-    }
-
-  -- The reason that is found is the one that is told, and no other is.
-  pub told_exactly : Fits z → (r : Reason) → (reason_of agrees z ≡ r) ↔ Told agrees z r
-  unfolding reason_of
-  told_exactly fits r =
-      let told : Told agrees z (reason_of agrees z) =
-      first-told (λ (r : Reason). scaled_agrees agrees (scaled_for r z)) exactly asked in_order (λ s. (each s).1) in
-      (λ e. subst (Told agrees z) e told, λ t. told_once (reason_of agrees z) r told t)
-    where
-      -- a reason passes the test exactly where its figure agrees
-      exactly : (r : Reason) → (scaled_agrees agrees (scaled_for r z) ≡ true) ↔ Agreeing agrees z r
-      exactly r = (there (scaled_for r z) refl, λ h. ap (scaled_agrees agrees) ((replaced_exactly r z h.0 fits).1 (h.1, h.2)) ∙ h.3)
-        where
-          there : (s : Scaled) → scaled_for r z ≡ s → scaled_agrees agrees s ≡ true → Agreeing agrees z r
-          there (Scaled.Figure m) d e = let k = (replaced_exactly r z m fits).0 d in (m, k.0, k.1, e)
-          there Scaled.Nothing d e = absurd (false≢true e)

@@ -1,7 +1,8 @@
 // Why a figure and a word agree or do not: the reasons, and the figure that each puts in the place of the one that was typed.
+#![tactic(auto)]
 
 // The nine reasons, in the order in which they are asked.
-#[derive(Drop)]
+#[derive(Clone, Copy)]
 pub enum Reason {
     // 1: the figure agrees
     Agrees,
@@ -24,7 +25,7 @@ pub enum Reason {
 }
 
 // A figure in millionths in the place of another: there is none where it would not be a whole number, or one of 64 bits.
-#[derive(Drop)]
+#[derive(Clone, Copy)]
 pub enum Scaled {
     Figure(i64),
     Nothing,

@@ -6,14 +6,17 @@ use mathlib.Core.List.{List, [], ◌∷◌, ◌++◌, map, map-append, map-map, 
 use Rattle.std.specs.Int.Count.{ones_in}
 use Rattle.bits.specs.Fields.{bits}
 use Rattle.refusals.specs.declared.Refusal.{Refusal}
-use Rattle.labels.specs.Assignment.{document01}
+use Rattle.labels.proofs.Assignment.{document01}
 use Rattle.labels.specs.Table.{row_of}
 use Rattle.reassembly_parts.specs.declared.Answer.{Answer}
 use Rattle.reassembly_parts.specs.declared.Group.{Group}
 use Rattle.reassembly_parts.specs.declared.Part.{Part}
 use Rattle.reassembly_parts.specs.declared.Part.TheVariants.{One, Two, Three, Four}
-use Rattle.reassembly_parts.specs.Run.{Input, part, other, Reply, answered, own, group_of, reply_of, next_of, replies, held_after, others, first_three, first_three_answers, words-completed, nothing-held as Parts-held}
-use Rattle.reassembly_parts.specs.Provenance.{CompletedBy, completed-only_by}
+use Rattle.reassembly_parts.specs.Run.{Input, part, other, Reply, answered, own, group_of}
+use Rattle.reassembly_parts.proofs.Run.{nothing-held as Parts-held}
+use Rattle.reassembly_parts.proofs.Run.{words-completed}
+use Rattle.reassembly_parts.specs.Run.{reply_of, next_of, replies, held_after, others, first_three, first_three_answers}
+use Rattle.reassembly_parts.proofs.Provenance.{CompletedBy, completed-only_by}
 use Rattle.part_words.specs.declared.PartIn.{PartIn}
 use Rattle.part_words.specs.declared.PartIn.TheVariants.{Carried, Refused}
 use Rattle.reassembly.specs.declared.Reassembler.{Reassembler}

@@ -9,7 +9,8 @@ use Rattle.reassembly_parts.specs.declared.Part.{Part}
 use Rattle.reassembly_parts.specs.declared.Reassembly.TheVariants.{Empty}
 use Rattle.reassembly_parts.specs.declared.Step.{Step}
 use Rattle.reassembly_parts.specs.Take.{take_of}
-use Rattle.reassembly_parts.specs.Sequence.{InSequence, out_of-sequence as part-refused, in_sequence as part-taken}
+use Rattle.reassembly_parts.specs.Sequence.{InSequence, out_of-sequence as part-refused}
+use Rattle.reassembly_parts.proofs.Sequence.{in_sequence as part-taken}
 use Rattle.part_words.specs.declared.PartIn.{PartIn}
 use Rattle.part_words.specs.declared.PartIn.TheVariants.{Carried, Refused}
 use Rattle.reassembly.specs.declared.Reassembler.{Reassembler}

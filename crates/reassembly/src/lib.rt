@@ -1,4 +1,6 @@
 // MLS auxiliary data: the words of group C, labels 140 to 143, put together.
+#![tactic(auto)]
+
 ghost use Rattle.std.specs.Prelude.{◌≡◌};
 ghost use Rattle.part_words.specs.Parts.{only_parts, part_of, part_in};
 ghost use Rattle.reassembly.specs.Step.{new, answer_of, stepped, take_word};
@@ -11,7 +13,7 @@ use records::{Body, Kind};
 use refusals::Refusal;
 
 // What a word is answered.
-#[derive(Drop)]
+#[derive(Clone, Copy)]
 pub enum WordAnswer {
     // Its part is taken, and the next one is awaited.
     Incomplete,
@@ -22,13 +24,13 @@ pub enum WordAnswer {
 }
 
 // The partial groups: one, of group C.
-#[derive(Drop)]
+#[derive(Clone, Copy)]
 pub struct Reassembler {
     pub group_c: Reassembly,
 }
 
 // The answer to one word, with the partial groups that are then held.
-#[derive(Drop)]
+#[derive(Clone, Copy)]
 pub struct WordStep {
     pub next: Reassembler,
     pub answer: WordAnswer,

@@ -3,7 +3,6 @@ use Rattle.std.specs.Prelude.{ℕ, suc, ◌+◌, ◌*◌, ◌-◌, ◌^◌, ◌/
 use Rattle.std.proofs.Common.{sym, ap, ◌∙◌, mul_assoc, arith, pow_pos, pow-add, shr-shr}
 use Rattle.std.proofs.Math.Nat.{add-mul-div_left, add-mul-mod_self_left, div-eq_of_lt, zero-div}
 use Rattle.std.proofs.Math.Decide.{dec_lt}
-use Rattle.reassembly_parts.specs.Take.{bits_of}
 
 -- contents of 16 bits each, the first lowest
 abbrev joined : List ℕ → ℕ
@@ -25,7 +24,7 @@ low_bit w i x y h = rw (split, mul_assoc, add-mul-div_left x _ (pow_pos i), mul_
 high_bit : (w k x y : ℕ) → x < 2 ^ w → (x + 2 ^ w * y) / 2 ^ (w + k) ≡ y / 2 ^ k
 high_bit w k x y h = sym (shr-shr (x + 2 ^ w * y) w k) ∙ ap (λ (n : ℕ). n / 2 ^ k) (add-mul-div_left x y (pow_pos w) ∙ rw (div-eq_of_lt h) (omega arith))
 
-joined-bit : (xs : List ℕ) → Contents xs → (i : ℕ) → joined xs / 2 ^ i % 2 ≡ get_or xs (i / 16) 0 / 2 ^ (i % 16) % 2
+pub joined-bit : (xs : List ℕ) → Contents xs → (i : ℕ) → joined xs / 2 ^ i % 2 ≡ get_or xs (i / 16) 0 / 2 ^ (i % 16) % 2
 joined-bit [] hs i = simp zero-div
 joined-bit (x ∷ xs) hs i = at (dec_lt i 16) (joined-bit xs hs.1 (i - 16))
   where
@@ -40,8 +39,3 @@ joined-bit (x ∷ xs) hs i = at (dec_lt i 16) (joined-bit xs hs.1 (i - 16))
         let r : i % 16 ≡ (i - 16) % 16 = omega arith in
         let e : i ≡ 16 + (i - 16) = omega arith in
         rw (q, r) (ap (λ (n : ℕ). joined (x ∷ xs) / 2 ^ n % 2) e ∙ ap (λ (n : ℕ). n % 2) (high_bit 16 (i - 16) x (joined xs) hs.0) ∙ ih)
-
--- Bit i is bit i % 16 of the content of part i / 16 + 1. It is bit 13 + i of the received word.
-pub group_bit : (a b c d : ℕ) → a < 2 ^ 16 → b < 2 ^ 16 → c < 2 ^ 16 → d < 2 ^ 16 → (i : ℕ)
-    → bits_of a b c d / 2 ^ i % 2 ≡ get_or (a ∷ b ∷ c ∷ d ∷ []) (i / 16) 0 / 2 ^ (i % 16) % 2
-group_bit a b c d ha hb hc hd i = ap (λ (n : ℕ). n / 2 ^ i % 2) (omega arith) ∙ joined-bit (a ∷ b ∷ c ∷ d ∷ []) (ha, (hb, (hc, (hd, tt)))) i

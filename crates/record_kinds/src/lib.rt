@@ -1,4 +1,6 @@
 // The kind of a record, and a kind's place in document 01's table.
+#![tactic(auto)]
+
 ghost use Rattle.std.specs.Prelude.{◌≡◌};
 ghost use Rattle.records.specs.All.{place_of};
 ghost use Rattle.records.specs.Kinds.{kind_of};

@@ -1,4 +1,6 @@
 // The reading of a record: its value's, under its status.
+#![tactic(auto)]
+
 ghost use Rattle.std.specs.Prelude.{◌≡◌};
 ghost use Rattle.readings.specs.Meaning.{Reads, Shows};
 ghost use Rattle.readings.specs.Readings.{azimuth_reading, course_reading, glide_reading, mls_reading, value_reading, shown_under, reading_of, has_reading};

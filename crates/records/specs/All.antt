@@ -1,7 +1,7 @@
 -- The list of all kinds, and the place of each: what one computed test or equation of the whole list says of each of them.
 -- Assumes nothing.
-use Rattle.std.specs.Prelude.{◌≡◌, refl, Bool, true, ℕ, ◌-◌, T, get_or}
-use Rattle.std.proofs.Common.{sym, ap, ◌∙◌, subst}
+use Rattle.std.specs.Prelude.{◌≡◌, Bool, true, ℕ, ◌-◌, T}
+use Rattle.std.proofs.Common.{sym, subst}
 use mathlib.Core.List.{List, [], ◌∷◌, map, head-eq_of_cons-eq, tail-eq_of_cons-eq}
 use Rattle.records.specs.declared.Kind.{Kind}
 use Rattle.records.specs.declared.Kind.TheVariants.{VorAzimuth, VorFrequency, IlsCourse, IlsGlide, IlsFrequency, MlsFrequency, MlsAzimuthDeviation, MlsGlideDeviation, SelectedAzimuth, GreatestGlideAngle, SelectedGlideAngle, Part1, Part2, Part3, Part4}
@@ -63,10 +63,3 @@ place_of Part1 = 12
 place_of Part2 = 13
 place_of Part3 = 14
 place_of Part4 = 15
-
-pub placed : (k : Kind) → get_or kinds (place_of k - 1) VorAzimuth ≡ k
-placed = agree (λ k. get_or kinds (place_of k - 1) VorAzimuth) (λ k. k) refl
-
--- so kinds of one place are one kind
-pub one_place : (j k : Kind) → place_of j ≡ place_of k → j ≡ k
-one_place j k e = sym (placed j) ∙ ap (λ (n : ℕ). get_or kinds (n - 1) VorAzimuth) e ∙ placed k

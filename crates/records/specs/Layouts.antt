@@ -1,8 +1,7 @@
 -- Document 01's table of layouts: the fields and the zero bits of each kind of word.
 -- Assumes nothing.
-use Rattle.std.specs.Prelude.{List, [], ◌∷◌, ◌++◌, ◌≡◌, refl, T}
-use Rattle.bits.specs.Layout.{Segment, field, zeros, contiguous, size}
-use Rattle.records.specs.All.{agree, every}
+use Rattle.std.specs.Prelude.{List, [], ◌∷◌, ◌++◌}
+use Rattle.bits.specs.Layout.{Segment, field, zeros}
 use Rattle.records.specs.declared.Kind.{Kind}
 use Rattle.records.specs.declared.Kind.TheVariants.{VorAzimuth, VorFrequency, IlsCourse, IlsGlide, IlsFrequency, MlsFrequency, MlsAzimuthDeviation, MlsGlideDeviation, SelectedAzimuth, GreatestGlideAngle, SelectedGlideAngle, Part1, Part2, Part3, Part4}
 
@@ -40,10 +39,3 @@ lower_layout k = field 1 8 ∷ field 9 10 ∷ upper_layout k
 -- the whole word: bit 32 is the parity
 abbrev pub word_layout : Kind → List Segment
 word_layout k = lower_layout k ++ (field 32 32 ∷ [])
-
--- every layout has each of the 32 bits once
-pub whole : (k : Kind) → T (contiguous 0 (word_layout k))
-whole = every (λ k. contiguous 0 (word_layout k)) refl
-
-pub whole-size : (k : Kind) → size (word_layout k) ≡ 32
-whole-size = agree (λ k. size (word_layout k)) (λ k. 32) refl

@@ -1,9 +1,11 @@
 // The records of the fifteen kinds of word. The definitions and their laws stand in specs/.
+#![tactic(auto)]
+
 use codes::{Category, Marker};
 use statuses::Status;
 
 // What a word is about.
-#[derive(Drop)]
+#[derive(Clone, Copy)]
 pub enum Kind {
     VorAzimuth,
     VorFrequency,
@@ -23,23 +25,23 @@ pub enum Kind {
 }
 
 // A count of 45/1024 degree.
-#[derive(Drop)]
+#[derive(Clone, Copy)]
 pub struct AzimuthCount(pub i16);
 
 // A count of 1/10240 of modulation depth difference.
-#[derive(Drop)]
+#[derive(Clone, Copy)]
 pub struct CourseCount(pub i16);
 
 // A count of 1/5120 of modulation depth difference.
-#[derive(Drop)]
+#[derive(Clone, Copy)]
 pub struct GlideCount(pub i16);
 
 // A count of 75/1024 mV.
-#[derive(Drop)]
+#[derive(Clone, Copy)]
 pub struct MlsCount(pub i16);
 
 // What a word of each kind holds beside its source. Frequencies are in tens of kHz, angles of 154 and 155 in tenths of a degree.
-#[derive(Drop)]
+#[derive(Clone, Copy)]
 pub enum Body {
     VorAzimuth {
         status: Status,
@@ -112,7 +114,7 @@ pub enum Body {
 }
 
 // An accepted word: its source (SDI) and what it holds.
-#[derive(Drop)]
+#[derive(Clone, Copy)]
 pub struct Record {
     pub source: u8,
     pub body: Body,

@@ -1,9 +1,11 @@
 // The refusals of document 01 and their numbers.
+#![tactic(auto)]
+
 ghost use Rattle.std.specs.Prelude.{◌≡◌};
 ghost use Rattle.refusals.specs.Numbers.{number_of, refusal_of};
 
 // Why an input is refused. `number_of` in specs/ gives document 01's number of each.
-#[derive(Drop)]
+#[derive(Clone, Copy)]
 pub enum Refusal {
     // 1: the ones are even in number
     Parity,
@@ -38,7 +40,7 @@ pub enum Refusal {
 }
 
 // The refusal of a number, or none.
-#[derive(Drop)]
+#[derive(Clone, Copy)]
 pub enum Numbered {
     Refusal(Refusal),
     Nothing,

@@ -1,11 +1,10 @@
 -- What rounding half to even gives, for every number and every divisor above 0. The errors are compared by the positive and negative
 -- parts of the signed numbers, where two different multiples of d differ by d at least.
-use Rattle.std.specs.Prelude.{◌≡◌, ◌≢◌, ◌⊎◌, Bool, true, false, not, cond, ℕ, zero, suc, ◌+◌, ◌-◌, ◌*◌, ◌/◌, ◌%◌, ◌≤◌, ◌<◌, T, ltb, ℤ, pos, neg_ℤ, nat_abs, ◌*ℤ◌, ◌≤ℤ◌}
-use Rattle.std.proofs.Common.{sym, ap, subst, inl, inr, add-mul, suc-mul, one-mul, zero-mul, mul-le-mul_right, div-add-mod', div-le_self, mod-lt, arith, ltb→lt, nltb→le}
+use Rattle.std.specs.Prelude.{◌≡◌, ◌≢◌, ◌⊎◌, Bool, true, false, not, cond, ℕ, zero, suc, ◌+◌, ◌-◌, ◌*◌, ◌/◌, ◌%◌, ◌≤◌, ◌<◌, T, ltb, ℤ, pos, neg_ℤ, ◌*ℤ◌}
+use Rattle.std.proofs.Common.{sym, ap, inl, inr, add-mul, suc-mul, one-mul, zero-mul, mul-le-mul_right, div-add-mod', div-le_self, mod-lt, arith, ltb→lt, nltb→le}
 use Rattle.std.proofs.Math.Nat.{eq_of_mul-eq-mul_right}
-use Rattle.std.specs.Int.Signed.{≤ℤ_refl}
-use Rattle.rounding.specs.Parts.{le-or-lt, is_negative, with_sign, with_sign_nat_abs, positive_part, negative_part, distance, nat_abs_parts, nat_abs_sub, positive_neg, negative_neg, positive_mul, negative-mul, parts-equal, parts-le, le_parts}
-use Rattle.rounding.specs.Rounding.{round_even, round_even_ℤ, Even, error, Rounded}
+use Rattle.rounding.specs.Parts.{le-or-lt, with_sign, positive_part, negative_part, distance, nat_abs_parts, nat_abs_sub, positive_neg, negative_neg, positive_mul, negative-mul, parts-equal}
+use Rattle.rounding.specs.Rounding.{round_even, Even, error, Rounded}
 
 -- the error, by the parts of the signed numbers
 pub error-parts : (z : ℤ) (d : ℕ) (k : ℤ) → error z d k ≡ distance (positive_part z + negative_part k * d) (positive_part k * d + negative_part z)
@@ -159,27 +158,6 @@ rounded-pos n d pd =
 pub rounded-signed : (negative : Bool) (n d : ℕ) → 0 < d → Rounded (with_sign negative n) d (with_sign negative (round_even n d))
 rounded-signed false n d pd = rounded-pos n d pd
 rounded-signed true n d pd = rounded_neg (rounded-pos n d pd)
-
--- what rounding gives is at most one half off, and even where it is one half off
-pub rounded : (z : ℤ) (d : ℕ) → 0 < d → Rounded z d (round_even_ℤ z d)
-unfolding round_even_ℤ
-rounded z d pd =
-    subst (λ (x : ℤ). Rounded x d (with_sign (is_negative z) (round_even (nat_abs z) d))) (with_sign_nat_abs z)
-    (rounded-signed (is_negative z) (nat_abs z) d pd)
-
--- a larger number is never rounded to a smaller one
-pub monotone : (z y : ℤ) (d : ℕ) → 0 < d → z ≤ℤ y → round_even_ℤ z d ≤ℤ round_even_ℤ y d
-monotone z y d pd h = go (separate (round_even_ℤ z d) (round_even_ℤ y d) d)
-  where
-    go : Separate (round_even_ℤ z d) (round_even_ℤ y d) d → round_even_ℤ z d ≤ℤ round_even_ℤ y d
-    go (same e) = subst (λ (k : ℤ). round_even_ℤ z d ≤ℤ k) e (≤ℤ_refl (round_even_ℤ z d))
-    go (below l p) = parts-le (round_even_ℤ z d) (round_even_ℤ y d) (omega arith)
-    go (above l p) =
-        let e : z ≡ y =
-        parts-equal z y
-        (omega
-        (arith, le_parts z y h, p, (rounded z d pd).near, (rounded y d pd).near, error-parts z d (round_even_ℤ z d), error-parts y d (round_even_ℤ y d))) in
-        subst (λ (x : ℤ). round_even_ℤ z d ≤ℤ round_even_ℤ x d) e (≤ℤ_refl (round_even_ℤ z d))
 
 -- what is rounded grows by 1 at most
 pub round_at-most : (n d : ℕ) → round_even n d ≤ n + 1

@@ -1,3 +1,5 @@
+#![tactic(auto)]
+
 ghost use Rattle.std.specs.Prelude.{◌≡◌, ◌<◌, nat_abs};
 ghost use Rattle.rounding.specs.Parts.{is_negative};
 ghost use Rattle.rounding.specs.Rounding.{round_even, rounded_over};

@@ -9,7 +9,8 @@ use Rattle.bits.specs.Layout.{split}
 use Rattle.bits.specs.Laws.{both_true}
 use Rattle.bits.specs.Complement.{signed, complement, complement-signed, signed-holds}
 use Rattle.bits.specs.Parity.{with_parity, parity_only}
-use Rattle.statuses.specs.Statuses.{binary_code, binary_status, binary_code_lem, decimal_code, decimal_status, decimal_listed, decimal_code_lem}
+use Rattle.statuses.specs.Statuses.{binary_code, binary_status, decimal_code, decimal_status, decimal_listed, decimal_code_lem}
+use Rattle.statuses.proofs.Statuses.{binary_code_lem}
 use Rattle.codes.specs.Codes.{flag_bit, marker_code_lem, category_code_lem, flag-bit}
 use Rattle.frequencies.specs.Frequencies.{tens_listed, frequency_in}
 use Rattle.records.specs.Kinds.{kind_of}

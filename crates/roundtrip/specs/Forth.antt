@@ -4,11 +4,12 @@ use Rattle.std.specs.Prelude.{◌≡◌, refl, Bool, true, ◌&&◌, List, [], �
 use Rattle.std.proofs.Common.{sym, ap, ap₂, ◌∙◌, arith, le-leb, ltb-true, leb-true, eq-eqb, lit<}
 use Rattle.std.proofs.Math.Pow.{mod-mod-pow, low}
 use Rattle.std.specs.Int.Signed.{mag}
-use Rattle.bits.specs.Fields.{bits, digits}
+use Rattle.bits.specs.Fields.{bits}
 use Rattle.bits.specs.Layout.{split}
 use Rattle.bits.specs.Complement.{signed, complement, signed-complement}
 use Rattle.bits.specs.Parity.{odd, parity_bit, parity_odd}
-use Rattle.statuses.specs.Statuses.{binary_status, binary_code, binary_status_lem, decimal_status, decimal_code, decimal_listed, decimal_status_lem}
+use Rattle.statuses.specs.Statuses.{binary_status, binary_code, decimal_status, decimal_code, decimal_listed, decimal_status_lem}
+use Rattle.statuses.proofs.Statuses.{binary_status_lem}
 use Rattle.codes.specs.Codes.{marker_of, marker_code, marker_listed, marker_of_lem, category_of, category_of_lem, flag_bit, flag-of}
 use Rattle.frequencies.specs.Frequencies.{tens_code, frequency_in}
 use Rattle.channels.specs.Channels.{legal_frequency, legal_expressible}

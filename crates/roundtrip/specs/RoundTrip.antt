@@ -8,21 +8,22 @@ use native.Mathlib.Omega.{arith}
 use Rattle.bits.specs.Fields.{bits}
 use Rattle.bits.specs.Layout.{field, split, join, size, clear, Clear, Fit}
 use Rattle.bits.specs.Laws.{both_true, join-split, split-join, clear_test, split-last, clear-last, contiguous-last, size-last, fit_last, join_last}
-use Rattle.bits.specs.Parity.{with_parity, parity_bit, parity_only, parity_odd, parity_lt}
+use Rattle.bits.specs.Parity.{with_parity, parity_bit, parity_only, parity_odd}
 use Rattle.records.specs.Kinds.{kind_of}
-use Rattle.records.specs.Layouts.{layout, lower_layout, word_layout, whole, whole-size}
+use Rattle.records.specs.Layouts.{layout, lower_layout, word_layout}
+use Rattle.records.proofs.Layouts.{whole, whole-size}
 use Rattle.records.specs.declared.Kind.{Kind}
 use Rattle.records.specs.declared.Record.{Record}
 use Rattle.refusals.specs.declared.Refusal.{Refusal}
 use Rattle.labels.specs.Label.{label_of}
-use Rattle.labels.specs.LabelLaws.{label_low, label_byte, label_twice, label_lt}
+use Rattle.labels.proofs.LabelLaws.{label_low, label_byte, label_twice, label_lt}
 use Rattle.labels.specs.Assignment.{Assignment}
 use Rattle.labels.specs.declared.Lookup.{Lookup}
 use Rattle.decode.specs.Decode.{record_of, decode_as, decode_with}
 use Rattle.decode.specs.declared.Decoded.{Decoded}
 use Rattle.encode.specs.Fields.{fields_of, status_bits}
-use Rattle.encode.specs.Encode.{codes_listed, values_legal, lower_as, word_as, word_of, record_label, encode_under, encode_as, encode_with}
-use Rattle.encode.specs.Laws.{fields_fit, lower_lt}
+use Rattle.encode.specs.Encode.{codes_listed, values_legal, lower_as, word_as, word_of, record_label, encode_under, encode_with}
+use Rattle.encode.proofs.Laws.{fields_fit, lower_lt}
 use Rattle.encode.specs.declared.Encoded.{Encoded}
 use Rattle.roundtrip.specs.Reading.{ReadsAs, accepts, accepted_as}
 use Rattle.roundtrip.specs.Back.{back}
@@ -53,11 +54,11 @@ legal_under : (l : ℕ) (r : Record) → (leb r.source 3 && codes_listed r.body)
 legal_under l r c v = rw (c, v)
 
 -- an accepted word is of the kind that was looked up, and its record under its label gives the word
-record Rewritten (l : Lookup) (w : ℕ) (r : Record) : Type 0 where
-  found : l ≡ Lookup.Known (kind_of r.body)
-  word : encode_under (label_of w) r ≡ Encoded.Word w
+pub record Rewritten (l : Lookup) (w : ℕ) (r : Record) : Type 0 where
+  pub found : l ≡ Lookup.Known (kind_of r.body)
+  pub word : encode_under (label_of w) r ≡ Encoded.Word w
 
-rewritten : (l : Lookup) (w : ℕ) (r : Record) → w < 2 ^ 32 → decode_as l w ≡ Decoded.Accepted r → Rewritten l w r
+pub rewritten : (l : Lookup) (w : ℕ) (r : Record) → w < 2 ^ 32 → decode_as l w ≡ Decoded.Accepted r → Rewritten l w r
 rewritten l w r h e =
     let s = accepted_as l w r e in
     let k = s.0 in
@@ -67,12 +68,6 @@ rewritten l w r h e =
       found = s.1.label ∙ ap Lookup.Known (sym (ap (λ (q : Record). kind_of q.body) s.2 ∙ b.kind));
       word = ap (encode_under (label_of w)) s.2 ∙ legal_under (label_of w) (record_of k w) c b.values ∙ ap Encoded.Word (word_back l w k h s.1);
     }
-
--- an accepted word's record, under the word's label, gives the word, whatever its label was looked up in
-pub decode-encode_as : (l : Lookup) (w : ℕ) (r : Record) → w < 2 ^ 32 → decode_as l w ≡ Decoded.Accepted r → encode_as (label_of w) r ≡ Encoded.Word w
-decode-encode_as l w r h e =
-    ap (λ (b : Bool). cond b (encode_under (label_of w) r) (Encoded.Refused Refusal.Label)) (le-leb (label_of w) 255 (omega (arith, label_lt w)))
-    ∙ (rewritten l w r h e).word
 
 -- and so does its record under an assignment
 pub decode-encode : (a : Assignment) (w : ℕ) (r : Record) → w < 2 ^ 32 → decode_with a w ≡ Decoded.Accepted r → encode_with a r ≡ Encoded.Word w
@@ -92,11 +87,11 @@ abbrev is_word : Encoded → ℕ
 is_word (Encoded.Word w) = 1
 is_word (Encoded.Refused f) = 0
 
-cond_word : (b : Bool) (d : Encoded) (f : Refusal) (w : ℕ) → cond b d (Encoded.Refused f) ≡ Encoded.Word w → (b ≡ true) × (d ≡ Encoded.Word w)
+pub cond_word : (b : Bool) (d : Encoded) (f : Refusal) (w : ℕ) → cond b d (Encoded.Refused f) ≡ Encoded.Word w → (b ≡ true) × (d ≡ Encoded.Word w)
 cond_word true d f w e = (refl, e)
 cond_word false d f w e = absurd (let z : 0 ≡ 1 = ap is_word e in omega arith)
 
-written_under : (l : ℕ) (r : Record) (w : ℕ) → encode_under l r ≡ Encoded.Word w → Written r × (word_as l r ≡ w)
+pub written_under : (l : ℕ) (r : Record) (w : ℕ) → encode_under l r ≡ Encoded.Word w → Written r × (word_as l r ≡ w)
 written_under l r w e =
     let c = cond_word (leb r.source 3 && codes_listed r.body) _ Refusal.Code w e in
     let v = cond_word (values_legal r.body) _ Refusal.Value w c.1 in
@@ -121,7 +116,7 @@ module _ (n : ℕ) (r : Record) (l : Written r) where
   unfolding values byte
   values_fit = (label_lt n, (source_lt, fields_fit r.body l.values))
 
-  lower_small : lower_as n r < 2 ^ 31
+  pub lower_small : lower_as n r < 2 ^ 31
   lower_small = lower_lt n r source_lt l.values
 
   -- the word of the record holds its values and zeros between them
@@ -141,11 +136,11 @@ module _ (n : ℕ) (r : Record) (l : Written r) where
       (split-join 0 (word_layout k) (values ++ (p ∷ [])) 0 (whole k)
       (fit_last (lower_layout k) values 31 1 p values_fit (omega arith)) (lit< tt))
 
-  label_back : n < 256 → label_of (word_as n r) ≡ n
+  pub label_back : n < 256 → label_of (word_as n r) ≡ n
   unfolding values byte
   label_back short = sym (label_low (word_as n r)) ∙ ap label_of (at 0 held.0) ∙ label_twice n short
 
-  record_read : decode_as (Lookup.Known (kind_of r.body)) (word_as n r) ≡ Decoded.Accepted r
+  pub record_read : decode_as (Lookup.Known (kind_of r.body)) (word_as n r) ≡ Decoded.Accepted r
   unfolding values byte
   record_read =
       let k : Kind = kind_of r.body in
@@ -165,22 +160,3 @@ pub record ReadBack (l : ℕ) (r : Record) (w : ℕ) : Type 0 where
   pub short : w < 2 ^ 32
   pub label : label_of w ≡ l
   pub decoded : decode_as (Lookup.Known (kind_of r.body)) w ≡ Decoded.Accepted r
-
-back_under : (l : ℕ) (r : Record) (w : ℕ) → l < 256 → encode_under l r ≡ Encoded.Word w → ReadBack l r w
-back_under l r w h e =
-    let u = written_under l r w e in
-    subst (ReadBack l r) u.1
-    (record { short = parity_lt 31 (lower_as l r) (lower_small l r u.0); label = label_back l r u.0 h; decoded = record_read l r u.0 })
-
--- a record that is written under a label
-pub encode-decode_as : (l : ℕ) (r : Record) (w : ℕ) → encode_as l r ≡ Encoded.Word w → ReadBack l r w
-encode-decode_as l r w e =
-    let c = cond_word (leb l 255) _ Refusal.Label w e in
-    back_under l r w (omega (arith, leb-true l 255 c.0)) c.1
-
--- and under an assignment: it gives a word of 32 bits, and the word gives the record
-pub encode-decode : (a : Assignment) (r : Record) (w : ℕ) → encode_with a r ≡ Encoded.Word w → (w < 2 ^ 32) × (decode_with a w ≡ Decoded.Accepted r)
-encode-decode a r w e =
-    let k = kind_of r.body in
-    let b = back_under (record_label a r) r w (a.short k) e in
-    (b.short, ap (λ (l : Lookup). decode_as l w) (ap a.kind b.label ∙ a.found k) ∙ b.decoded)

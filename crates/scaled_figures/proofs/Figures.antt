@@ -9,7 +9,8 @@ use native.Mathlib.Omega.{arith}
 use borrow.Author.Tests.{eq-eqb, ne_eqb}
 use lib.IntN.{ℤ, nat_abs}
 use Rattle.rounding.specs.Parts.{is_negative}
-use Rattle.signed_numbers.specs.Signed.{signed_of, greatest, signed_large}
+use Rattle.signed_numbers.specs.Signed.{signed_of, greatest}
+use Rattle.signed_numbers.proofs.SignedTheorems.{signed_large}
 use Rattle.signed_numbers.specs.declared.Signed.{Signed}
 use Rattle.reasons.specs.Scaled.{scaled_to, part_of, multiple_of, opposite_of}
 use Rattle.reasons.specs.declared.Scaled.{Scaled}

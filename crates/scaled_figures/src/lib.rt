@@ -1,4 +1,6 @@
 // The figure that a reason puts in the place of the one that was typed.
+#![tactic(auto)]
+
 ghost use Rattle.std.specs.Prelude.{◌≡◌, ◌<◌};
 ghost use Rattle.reasons.specs.Scaled.{scaled_to, part_of, multiple_of, opposite_of, scaled_for};
 

@@ -6,7 +6,7 @@ use Rattle.fields.specs.declared.FieldKind.{FieldKind}
 use Rattle.fields.specs.declared.Start.{Start}
 use Rattle.fields.specs.Start.{depth_allowed, start_of}
 use Rattle.fields.specs.Run.{Field, Scan, Fields, Refused, ◌and_then◌, inside, step, run_of}
-use Rattle.fields.specs.Laws.{whole-field, run_step}
+use Rattle.fields.proofs.Laws.{whole-field, run_step}
 use Rattle.sheet.specs.declared.Checked.{Checked}
 use Rattle.sheet.specs.declared.FieldChecked.{FieldChecked}
 use Rattle.sheet.specs.Checked.{checked_of, after_inside, field_from, field_of}

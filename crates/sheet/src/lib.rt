@@ -1,4 +1,6 @@
 // Checking a sheet: whether it is legal, else its first refusal with the offset of the field's tag.
+#![tactic(auto)]
+
 ghost use Rattle.std.specs.Prelude.{◌≡◌, ◌+◌, ◌-◌, ◌≤◌, ◌<◌, length};
 ghost use Rattle.fields.specs.Run.{run_of, sheet_of, inside_of};
 ghost use Rattle.sheet.specs.Checked.{checked_of, after_inside, field_of};
@@ -7,7 +9,7 @@ use fields::{FieldKind, Start};
 use refusals::Refusal;
 
 // What the check of a run of bytes says.
-#[derive(Drop)]
+#[derive(Clone, Copy)]
 pub enum Checked {
     // Every field may stand where it stands.
     Legal,
@@ -16,7 +18,7 @@ pub enum Checked {
 }
 
 // What the check of one field, with its inside, says.
-#[derive(Drop)]
+#[derive(Clone, Copy)]
 pub enum FieldChecked {
     // No byte is left.
     End,

@@ -1,9 +1,11 @@
 // A number of 64 bits, by its sign and its size.
+#![tactic(auto)]
+
 ghost use Rattle.std.specs.Prelude.{◌≡◌};
 ghost use Rattle.signed_numbers.specs.Signed.{signed_of};
 
 // A number by its sign and its size: of 64 bits, or too large for them.
-#[derive(Drop)]
+#[derive(Clone, Copy)]
 pub enum Signed {
     Number(i64),
     TooLarge,

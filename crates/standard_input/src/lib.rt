@@ -1,11 +1,13 @@
 // Standard input, read to its end or piece by piece into a buffer. A read that fails is not taken for the end.
-ghost use Rattle.std.specs.Prelude.{length};
-ghost use Rattle.standard_input.specs.Input.{Holds, Adds};
+#![tactic(auto)]
 
-use libc::{EINTR, STDIN_FILENO};
+ghost use Rattle.std.specs.Prelude.{length};
+ghost use Rattle.standard_input.specs.Input.{Holds, Adds, Takes, TakesOnce};
+
+use std::io::{ErrorKind, Read};
 
 // What reading standard input gives.
-#[derive(Drop)]
+#[derive(Clone, Copy)]
 pub enum Input {
     // The input stands in the buffer's first bytes, as many as this: all of it, or as much as the buffer holds.
     Length(usize),
@@ -14,7 +16,7 @@ pub enum Input {
 }
 
 // What one read gives.
-#[derive(Drop)]
+#[derive(Clone, Copy)]
 pub enum Chunk {
     // As many bytes.
     Bytes(usize),
@@ -27,31 +29,35 @@ pub enum Chunk {
 }
 
 // One read into a buffer. Without room there is the input's end.
-pub fn read_chunk(buffer: &mut [u8]) -> Chunk
-    ensures { Adds result (length buffer.old) }
+pub fn read_chunk<R: Read>(input: &mut R, buffer: &mut [u8]) -> Chunk
+    ensures adds { Adds result (length buffer.old) }
+    ensures bytes { TakesOnce result (R.remaining input.old) (R.remaining input.new) buffer.new }
 {
-    let got = libc::read(STDIN_FILENO, buffer);
-    if got < 0 {
-        if os::errno() == EINTR {
-            return Chunk::Interrupted;
+    match input.read(buffer) {
+        Ok(count) => {
+            if count == 0 {
+                return Chunk::End;
+            }
+            Chunk::Bytes(count)
         }
-        return Chunk::Failed;
+        Err(error) => {
+            if error.kind() == ErrorKind::Interrupted {
+                return Chunk::Interrupted;
+            }
+            Chunk::Failed
+        }
     }
-    let count = io::count(got, buffer);
-    if count == 0 {
-        return Chunk::End;
-    }
-    Chunk::Bytes(count)
 }
 
 // Reads standard input until it ends or the buffer is full. A read that a signal interrupts is tried again, 65,536 times in all.
-pub fn read_all(buffer: &mut [u8]) -> Input
-    ensures { Holds result buffer.new }
+pub fn read_all<R: Read>(input: &mut R, buffer: &mut [u8]) -> Input
+    ensures holds { Holds result buffer.new }
+    ensures bytes { Takes result (R.remaining input.old) (R.remaining input.new) buffer.new }
 {
     let mut done = 0;
     let mut tries: u32 = 65536;
     while done < buffer.len() {
-        match read_chunk(&mut buffer[done..]) {
+        match read_chunk(input, &mut buffer[done..]) {
             Chunk::Bytes(count) => {
                 done += count;
             }

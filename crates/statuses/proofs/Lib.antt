@@ -1,1 +1,2 @@
 pub mod Fourth
+pub mod Statuses

@@ -1,7 +1,7 @@
 -- The codes of statuses in bits 30 and 31, and what each code means. The lowest bit of a field is its first in document 01's print:
 -- "10" is the number 1. A number outside its list is refused with 4 before anyone asks what it means; what it is taken for here is told last.
 -- Assumes nothing.
-use Rattle.std.specs.Prelude.{◌≡◌, refl, Bool, true, false, ℕ, zero, suc, ◌≤◌, ◌<◌, ltb}
+use Rattle.std.specs.Prelude.{◌≡◌, refl, Bool, false, ℕ, zero, suc, ◌≤◌, ◌<◌, ltb}
 use Rattle.std.proofs.Common.{sym, arith, lit<}
 use Rattle.std.proofs.lemmas.Bool.{false≢true}
 use Rattle.statuses.specs.declared.Status.{Status}
@@ -39,18 +39,6 @@ abbrev pub decimal_listed : ℕ → Bool
 decimal_listed c = ltb c 3
 
 -- ---- each code means what it is the code of, and the other way round
-
-pub binary_code_lem : (c : ℕ) → c < 4 → binary_code (binary_status c) ≡ c
-binary_code_lem zero h = refl
-binary_code_lem (suc zero) h = refl
-binary_code_lem (suc (suc zero)) h = refl
-binary_code_lem (suc (suc (suc n))) h = omega arith
-
-pub binary_status_lem : (s : Status) → binary_status (binary_code s) ≡ s
-binary_status_lem Failure = refl
-binary_status_lem NoData = refl
-binary_status_lem Test = refl
-binary_status_lem Ready = refl
 
 pub decimal_code_lem : (c : ℕ) → c < 4 → decimal_code (decimal_status c) ≡ c
 decimal_code_lem zero h = refl

@@ -1,9 +1,11 @@
 // The status of a word and its code, in binary and in decimal words.
+#![tactic(auto)]
+
 ghost use Rattle.std.specs.Prelude.{◌≡◌, ◌<◌};
 ghost use Rattle.statuses.specs.Statuses.{binary_status, binary_code, decimal_status, decimal_code};
 
 // The status (SSM) of a word.
-#[derive(Drop)]
+#[derive(Clone, Copy)]
 pub enum Status {
     Failure,
     NoData,

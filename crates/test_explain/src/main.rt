@@ -1,15 +1,17 @@
 // Explains each figure of the test vectors beside its word and compares the answer with what its line says: a word in hexadecimal, a figure in
 // millionths, and then `refused` and the number of the refusal, or the reason in a word, between single spaces. In the second file four lines
 // of the first are wrong.
+#![tactic(auto)]
 ghost use Rattle.std.specs.Prelude.{◌≡◌};
 ghost use Rattle.test_explain.specs.Vectors.{right};
 
 use signed_numbers::Signed;
+use std::rt::Files;
 use test_vectors::Tally;
 use typed_words::TypedWord;
 
 // What a line says of a figure beside a word: the number of a refusal, or 0 and the number of a reason.
-#[derive(Drop)]
+#[derive(Clone, Copy)]
 struct Answer {
     refusal: u64,
     reason: u64,
@@ -95,13 +97,13 @@ fn tally_of(text: &[u8]) -> Tally {
 }
 
 // Checks the lines of a file.
-fn check_file(name: &[u8]) {
+fn check_file(rt: &(impl Files + Print + Eprint), name: &[u8]) {
     let mut text = [0u8; 32768];
-    let length = test_vectors::read_file(name, &mut text);
-    test_vectors::report(name, tally_of(&text[..length]));
+    let length = test_vectors::read_file(rt, name, &mut text);
+    test_vectors::report(rt, name, tally_of(&text[..length]));
 }
 
-fn main() {
-    check_file(b"explain.txt");
-    check_file(b"explain_wrong.txt");
+fn main(rt: HostRuntime) {
+    check_file(&rt, b"explain.txt");
+    check_file(&rt, b"explain_wrong.txt");
 }

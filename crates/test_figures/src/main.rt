@@ -1,22 +1,24 @@
 // Codes each figure of the test vectors and compares the answer with what its line says: a label in octal, a source, a figure in millionths, and
 // then `refused` and the number of the refusal, or the coded word in hexadecimal, between single spaces. The second file has document
 // 01's own lines, the third figures at the half steps of the MLS deviations, and in the fourth four lines of the first are wrong.
+#![tactic(auto)]
 ghost use Rattle.std.specs.Prelude.{◌≡◌};
 ghost use Rattle.test_figures.specs.Vectors.{right};
 
 use encode::Encoded;
 use signed_numbers::Signed;
+use std::rt::Files;
 use test_vectors::Tally;
 
 // What a line says that coding gives: the number of a refusal, or 0 and a word.
-#[derive(Drop)]
+#[derive(Clone, Copy)]
 struct Answer {
     refusal: u64,
     word: u64,
 }
 
 // What a line says of a figure.
-#[derive(Drop)]
+#[derive(Clone, Copy)]
 struct Expected {
     label: u64,
     source: u64,
@@ -100,15 +102,15 @@ fn tally_of(text: &[u8]) -> Tally {
 }
 
 // Checks the lines of a file.
-fn check_file(name: &[u8]) {
+fn check_file(rt: &(impl Files + Print + Eprint), name: &[u8]) {
     let mut text = [0u8; 32768];
-    let length = test_vectors::read_file(name, &mut text);
-    test_vectors::report(name, tally_of(&text[..length]));
+    let length = test_vectors::read_file(rt, name, &mut text);
+    test_vectors::report(rt, name, tally_of(&text[..length]));
 }
 
-fn main() {
-    check_file(b"figures.txt");
-    check_file(b"document_01.txt");
-    check_file(b"mls.txt");
-    check_file(b"figures_wrong.txt");
+fn main(rt: HostRuntime) {
+    check_file(&rt, b"figures.txt");
+    check_file(&rt, b"document_01.txt");
+    check_file(&rt, b"mls.txt");
+    check_file(&rt, b"figures_wrong.txt");
 }

@@ -1,10 +1,12 @@
 // Hands the words of a file one after the other to a reassembler, and compares each answer with the one that stands beside the word.
+#![tactic(auto)]
 use reassembly::{Reassembler, WordAnswer};
 use reassembly_parts::Reassembly;
+use std::rt::Files;
 use test_vectors::Tally;
 
 // The lines read so far, and the parts that are then held.
-#[derive(Drop)]
+#[derive(Clone, Copy)]
 struct Progress {
     held: Reassembler,
     tally: Tally,
@@ -96,13 +98,13 @@ fn tally_of(text: &[u8]) -> Tally {
 }
 
 // Checks the lines of a file.
-fn check_file(name: &[u8]) {
+fn check_file(rt: &(impl Files + Print + Eprint), name: &[u8]) {
     let mut text = [0u8; 32768];
-    let length = test_vectors::read_file(name, &mut text);
-    test_vectors::report(name, tally_of(&text[..length]));
+    let length = test_vectors::read_file(rt, name, &mut text);
+    test_vectors::report(rt, name, tally_of(&text[..length]));
 }
 
-fn main() {
-    check_file(b"joins.txt");
-    check_file(b"wrong.txt");
+fn main(rt: HostRuntime) {
+    check_file(&rt, b"joins.txt");
+    check_file(&rt, b"wrong.txt");
 }

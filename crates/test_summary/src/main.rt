@@ -2,8 +2,10 @@
 // (`-`: the empty one), a label in octal, a source in decimal, and then `refused`, the number of the refusal and, where it is the sheet's own, its
 // offset; or the numbers of the summary, each behind its name and `=`. All between single spaces. In the second file the first line is right, and
 // every other one is wrong in one place.
+#![tactic(auto)]
 use flat_summaries::FlatSummary;
 use signed_numbers::Signed;
+use std::rt::Files;
 use test_vectors::Tally;
 
 // Whether a text is this number.
@@ -189,13 +191,13 @@ fn tally_of(text: &[u8]) -> Tally {
 }
 
 // Checks the lines of a file.
-fn check_file(name: &[u8]) {
+fn check_file(rt: &(impl Files + Print + Eprint), name: &[u8]) {
     let mut text = [0u8; 131072];
-    let length = test_vectors::read_file(name, &mut text);
-    test_vectors::report(name, tally_of(&text[..length]));
+    let length = test_vectors::read_file(rt, name, &mut text);
+    test_vectors::report(rt, name, tally_of(&text[..length]));
 }
 
-fn main() {
-    check_file(b"summary.txt");
-    check_file(b"summary_wrong.txt");
+fn main(rt: HostRuntime) {
+    check_file(&rt, b"summary.txt");
+    check_file(&rt, b"summary_wrong.txt");
 }

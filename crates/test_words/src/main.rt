@@ -1,5 +1,6 @@
 // Decodes each word of the test vectors and compares its refusal and its count with what its line says: a word in hexadecimal, the number of
 // its refusal (0: accepted) and its count (0 where it has none), between single spaces. In the last file three lines are wrong.
+#![tactic(auto)]
 ghost use Rattle.std.specs.Prelude.{◌≡◌};
 ghost use Rattle.decode.specs.Decode.{decode_of};
 ghost use Rattle.pages.specs.Page.{refusal_in, count_in, count_of};
@@ -7,10 +8,11 @@ ghost use Rattle.test_words.specs.Vectors.{written, right};
 
 use decode::Decoded;
 use measurements::Measurement;
+use std::rt::Files;
 use test_vectors::Tally;
 
 // What a line says of a word.
-#[derive(Drop)]
+#[derive(Clone, Copy)]
 struct Expected {
     word: u32,
     refusal: u32,
@@ -105,14 +107,14 @@ fn tally_of(text: &[u8]) -> Tally {
 }
 
 // Checks the lines of a file.
-fn check_file(name: &[u8]) {
+fn check_file(rt: &(impl Files + Print + Eprint), name: &[u8]) {
     let mut text = [0u8; 32768];
-    let length = test_vectors::read_file(name, &mut text);
-    test_vectors::report(name, tally_of(&text[..length]));
+    let length = test_vectors::read_file(rt, name, &mut text);
+    test_vectors::report(rt, name, tally_of(&text[..length]));
 }
 
-fn main() {
-    check_file(b"words.txt");
-    check_file(b"raster.txt");
-    check_file(b"words_wrong.txt");
+fn main(rt: HostRuntime) {
+    check_file(&rt, b"words.txt");
+    check_file(&rt, b"raster.txt");
+    check_file(&rt, b"words_wrong.txt");
 }

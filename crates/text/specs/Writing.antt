@@ -1,10 +1,10 @@
 -- Text into a buffer, in the manner of C's `snprintf`: what fits is stored, and all is counted.
 -- Assumes nothing.
-use Rattle.std.specs.Prelude.{◌≡◌, refl, List, [], ◌∷◌, ◌++◌, ℕ, suc, ◌+◌, ◌-◌, ◌^◌, ◌≤◌, ◌<◌, min, length, take, drop, set}
+use Rattle.std.specs.Prelude.{◌≡◌, refl, List, [], ◌∷◌, ◌++◌, ℕ, suc, ◌+◌, ◌-◌, ◌^◌, ◌≤◌, min, length, take, drop, set}
 use Rattle.std.proofs.Common.{sym, ap, ap₂, subst, ◌∙◌, arith, length-append}
 use Rattle.std.proofs.Math.Decide.{dec_le}
 use Rattle.std.proofs.lemmas.List.Edits.{sets, sets-eq}
-use Rattle.std.proofs.Math.Seq.{length-sets, set_out, take-append_seam}
+use Rattle.std.proofs.Math.Seq.{set_out, take-append_seam}
 
 -- the largest number of 64 bits, at which counting stops: no buffer reaches it
 abbrev pub last : ℕ
@@ -22,29 +22,17 @@ sets_out : (l : List ℕ) (i : ℕ) (t : List ℕ) → length l ≤ i → sets l
 sets_out l i [] h = refl
 sets_out l i (a ∷ t) h = ap (λ (x : List ℕ). sets x (suc i) t) (set_out l i a h) ∙ sets_out l (suc i) t (omega arith)
 
-sets_append : (l : List ℕ) (i : ℕ) (s t : List ℕ) → sets l i (s ++ t) ≡ sets (sets l i s) (i + length s) t
+pub sets_append : (l : List ℕ) (i : ℕ) (s t : List ℕ) → sets l i (s ++ t) ≡ sets (sets l i s) (i + length s) t
 sets_append l i [] t = ap (λ (k : ℕ). sets l k t) (omega arith)
 sets_append l i (a ∷ s) t = sets_append (set l i a) (suc i) s t ∙ ap (λ (k : ℕ). sets (sets (set l i a) (suc i) s) k t) (omega arith)
 
 -- a place past the largest number is past the end all the same
-sets_capped : (l : List ℕ) (i : ℕ) (t : List ℕ) → length l ≤ last → sets l (min i last) t ≡ sets l i t
+pub sets_capped : (l : List ℕ) (i : ℕ) (t : List ℕ) → length l ≤ last → sets l (min i last) t ≡ sets l i t
 sets_capped l i t h = go (dec_le i last)
   where
     go : Dec (i ≤ last) → sets l (min i last) t ≡ sets l i t
     go (yes k) = ap (λ (n : ℕ). sets l n t) (omega arith)
     go (no k) = sets_out l (min i last) t (omega arith) ∙ sym (sets_out l i t (omega arith))
-
--- Two texts in a row are one.
-pub joined : {a : List ℕ} {i : ℕ} {s b : List ℕ} {j : ℕ} {t c : List ℕ} {k : ℕ} → Writes a i s b j → Writes b j t c k → Writes a i (s ++ t) c k
-joined {a} {i} {s} {b} {j} {t} {c} {k} v w = record {
-  length_within = v.length_within;
-  stored =
-      w.stored
-      ∙ (λ o. sets (v.stored o) (v.counted o) t)
-      ∙ sets_capped (sets a i s) (i + length s) t (omega (arith, length-sets a i s, v.length_within))
-      ∙ sym (sets_append a i s t);
-  counted = omega (arith, v.counted, w.counted, length-append s t);
-}
 
 -- a text by another name
 pub named : {a : List ℕ} {i : ℕ} {s t b : List ℕ} {j : ℕ} → Writes a i s b j → s ≡ t → Writes a i t b j
@@ -54,20 +42,9 @@ named {a} {i} {s} {t} {b} {j} v e = subst (λ (x : List ℕ). Writes a i x b j) 
 pub empty : {a : List ℕ} {i : ℕ} → length a ≤ last → i ≤ last → Writes a i [] a i
 empty h k = record { length_within = h; stored = refl; counted = omega arith }
 
--- one byte: stored where there is a place for it, and counted
-pub byte_stored : {a : List ℕ} {i : ℕ} {x : ℕ} → length a ≤ last → i < length a → Writes a i (x ∷ []) (set a i x) (i + 1)
-byte_stored h k = record { length_within = h; stored = refl; counted = omega arith }
-
-pub byte_left : {a : List ℕ} {i : ℕ} {x j : ℕ} → length a ≤ last → length a ≤ i → j ≡ min (i + 1) last → Writes a i (x ∷ []) a j
-byte_left {a} {i} {x} h k e = record { length_within = h; stored = sym (set_out a i x k); counted = omega (arith, e) }
-
 -- where the text ends below the largest number, the next place is exact
 pub exact : {a : List ℕ} {i : ℕ} {s b : List ℕ} {j : ℕ} → Writes a i s b j → i + length s ≤ last → j ≡ i + length s
 exact v h = omega (arith, v.counted)
-
--- the buffer keeps its length
-pub length-kept : {a : List ℕ} {i : ℕ} {s b : List ℕ} {j : ℕ} → Writes a i s b j → length b ≡ length a
-length-kept {a} {i} {s} v = ap length v.stored ∙ length-sets a i s
 
 -- a text that the buffer has room for stands whole at its start, and the next place counts its bytes
 pub whole : {a s b : List ℕ} {n : ℕ} → Writes a 0 s b n → length s ≤ length a → ((n ≤ length b) × (n ≡ length (take n b))) × (take n b ≡ s)

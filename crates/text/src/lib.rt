@@ -1,5 +1,7 @@
 // Text into a buffer, in the manner of C's `snprintf`: what fits is stored from a place on, and the next place is told whatever fits.
 // A place that would pass the largest number stays there.
+#![tactic(auto)]
+
 ghost use Rattle.std.specs.Prelude.{◌≡◌, [], ◌∷◌, ◌+◌, min};
 ghost use Rattle.text.specs.Writing.{last, Writes};
 

@@ -5,7 +5,8 @@ use Rattle.std.proofs.Common.{ap, ap₂, ◌∙◌, arith, lt-ltb, ltb-true}
 use Rattle.numerals.specs.Theorems.{Digits, value}
 use Rattle.numerals.specs.Theorems as Written
 use Rattle.typed_texts.specs.Numbers.{digit_of, value_from, value_of, are_digits}
-use Rattle.typed_texts.specs.NumberLaws.{decimal_digit, decimal-digits-only}
+use Rattle.typed_texts.specs.NumberLaws.{decimal_digit}
+use Rattle.typed_texts.proofs.NumberLaws.{decimal-digits-only}
 
 pub both : (x y : Bool) → (x && y) ≡ true → (x ≡ true) × (y ≡ true)
 both true true h = (refl, refl)

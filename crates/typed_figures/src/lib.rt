@@ -1,7 +1,8 @@
 // Figures as a person types them: the definitions and their laws stand in specs/.
+#![tactic(auto)]
 
 // What a typed figure means in millionths of its unit, or that the text is no figure.
-#[derive(Drop)]
+#[derive(Clone, Copy)]
 pub enum TypedFigure {
     Millionths(i64),
     Unread,

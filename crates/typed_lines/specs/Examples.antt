@@ -1,18 +1,8 @@
 -- A line taken apart: what the definitions compute to.
 -- Assumes nothing.
 use Rattle.std.specs.Prelude.{◌≡◌, refl, [], ◌∷◌}
-use Rattle.typed_lines.specs.Lines.{skip_blanks, first_part, behind_part, without_return}
+use Rattle.typed_lines.specs.Lines.{skip_blanks}
 
 -- ` a`, a tab and `b `: without the blank at its start, its first part, and what stands behind that
 skipped : skip_blanks (32 ∷ 97 ∷ 9 ∷ 98 ∷ 32 ∷ []) ≡ 97 ∷ 9 ∷ 98 ∷ 32 ∷ []
 skipped = refl
-
-first : first_part (97 ∷ 9 ∷ 98 ∷ 32 ∷ []) ≡ 97 ∷ []
-first = refl
-
-behind : behind_part (97 ∷ 9 ∷ 98 ∷ 32 ∷ []) ≡ 9 ∷ 98 ∷ 32 ∷ []
-behind = refl
-
--- of two carriage returns at the end one is left
-one_left : without_return (97 ∷ 13 ∷ 13 ∷ []) ≡ 97 ∷ 13 ∷ []
-one_left = refl

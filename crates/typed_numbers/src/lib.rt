@@ -1,4 +1,6 @@
 // The numbers that are written in digits in a typed text.
+#![tactic(auto)]
+
 ghost use Rattle.std.specs.Prelude.{◌≡◌};
 ghost use Rattle.typed_texts.specs.Texts.{unsigned};
 ghost use Rattle.typed_texts.specs.Numbers.{digit_of, goes_behind, numeral_of};

@@ -1,6 +1,6 @@
 -- Lines typed: what the definitions compute to.
 -- Assumes nothing.
-use Rattle.std.specs.Prelude.{◌≡◌, refl, [], ◌∷◌, ◌++◌, pos, negsuc, replicate}
+use Rattle.std.specs.Prelude.{◌≡◌, refl, ◌++◌, pos, negsuc, replicate}
 use Rattle.text.specs.Ascii.{ascii}
 use Rattle.signed_numbers.specs.Signed.{signed_of}
 use Rattle.typed_texts.specs.Numbers.{digit_of}
@@ -12,14 +12,6 @@ blanks_around : line_of (ascii " 5000003e  -0,8 ") ≡ TypedLine.Pair 0x5000003E
 unfolding line_of pair_in figure_of parts_read signed_of digit_of
 blanks_around = refl
 
-with_return : line_of (ascii "5000003E 1" ++ (13 ∷ [])) ≡ TypedLine.Pair 0x5000003E (pos 1000000)
-unfolding line_of pair_in figure_of parts_read signed_of digit_of
-with_return = refl
-
-text_behind_lem : line_of (ascii "5000003E 1 m") ≡ TypedLine.Unread
-unfolding line_of pair_in figure_of parts_read signed_of digit_of
-text_behind_lem = refl
-
 word_alone : line_of (ascii "5000003E") ≡ TypedLine.Unread
 unfolding line_of pair_in figure_of parts_read signed_of digit_of
 word_alone = refl
@@ -28,19 +20,7 @@ blanks_alone : line_of (ascii "  ") ≡ TypedLine.Unread
 unfolding line_of pair_in figure_of parts_read signed_of digit_of
 blanks_alone = refl
 
-return_alone : line_of (13 ∷ []) ≡ TypedLine.Passed
-unfolding line_of
-return_alone = refl
-
-comment : line_of (ascii "#5000003E 1") ≡ TypedLine.Passed
-unfolding line_of
-comment = refl
-
 -- 200 bytes are taken, and 201 are not
 longest-taken : line_of (ascii "5000003E 1" ++ replicate 190 32) ≡ TypedLine.Pair 0x5000003E (pos 1000000)
 unfolding line_of pair_in figure_of parts_read signed_of digit_of
 longest-taken = refl
-
-too_long : line_of (ascii "5000003E 1" ++ replicate 191 32) ≡ TypedLine.Unread
-unfolding line_of
-too_long = refl

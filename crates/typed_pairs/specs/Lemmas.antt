@@ -34,8 +34,3 @@ pub nothing_behind : (word : TypedWord) (figure : TypedFigure) (rest : List ℕ)
     → pair_of word figure rest ≡ TypedLine.Pair w z
 nothing_behind word figure [] w z e f n = ap₂ (λ (x : TypedWord) (y : TypedFigure). pair_of x y []) e f
 nothing_behind word figure (c ∷ t) w z e f n = absurd (omega arith)
-
-pub more_behind : (word : TypedWord) (figure : TypedFigure) (rest : List ℕ) (w : ℕ) (z : ℤ) → word ≡ TypedWord.Word w → figure ≡ TypedFigure.Millionths z → (length rest ≡ 0 → ⊥)
-    → pair_of word figure rest ≡ TypedLine.Unread
-more_behind word figure [] w z e f n = absurd (n refl)
-more_behind word figure (c ∷ t) w z e f n = ap₂ (λ (x : TypedWord) (y : TypedFigure). pair_of x y (c ∷ t)) e f

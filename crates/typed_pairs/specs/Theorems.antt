@@ -1,33 +1,25 @@
 -- A line is a pair exactly where a word and a figure are typed in it, and is passed over exactly where it is empty or a comment; a longer line may be cut.
 -- Assumes nothing.
-use Rattle.std.specs.Prelude.{◌≡◌, refl, Bool, true, false, cond, ◌↔◌, List, [], ◌∷◌, ◌++◌, ℕ, zero, suc, ◌^◌, ◌≤◌, ◌<◌, eqb, ltb, ℤ, length, take, get_or}
-use Rattle.std.proofs.Common.{sym, ap, ap₂, ◌∙◌, inl, inr, arith, eqb-true, ltb-false, lt-ltb, length-append, length-take}
-use Rattle.signed_numbers.specs.Signed.{Fits}
+use Rattle.std.specs.Prelude.{◌≡◌, List, [], ◌∷◌, ◌++◌, ℕ, suc, ◌≤◌, ◌<◌, ℤ, length, get_or}
+use Rattle.std.proofs.Common.{sym, ap, ap₂, ◌∙◌, inl, inr, arith}
 use Rattle.typed_texts.specs.Numbers.{digit_of}
 use Rattle.typed_words.specs.declared.TypedWord.{TypedWord}
 use Rattle.typed_words.specs.Words.{word_of}
 use Rattle.typed_words.specs.Eight.{AreDigits}
-use Rattle.typed_words.specs.Lemmas.{digit_there}
-use Rattle.typed_words.specs.Theorems.{word_exactly, word_within}
+use Rattle.typed_words.proofs.Lemmas.{digit_there}
+use Rattle.typed_words.proofs.Theorems.{word_exactly}
 use Rattle.typed_figures.specs.declared.TypedFigure.{TypedFigure}
 use Rattle.typed_figures.specs.Figures.{parts_read, figure_of}
-use Rattle.typed_figures.specs.Theorems.{typed_exactly}
+use Rattle.typed_figures.proofs.Theorems.{typed_exactly}
 use Rattle.typed_lines.specs.Lines.{skip_blanks, first_part, behind_part, without_return}
 use Rattle.typed_lines.specs.LineLaws.{Blanks}
-use Rattle.typed_lines.specs.TwoParts.{behind_first, Found, two_parts}
+use Rattle.typed_lines.specs.TwoParts.{behind_first}
+use Rattle.typed_lines.proofs.TwoParts.{two_parts}
 use Rattle.typed_pairs.specs.declared.TypedLine.{TypedLine}
-use Rattle.typed_pairs.specs.Pairs.{pair_of, pair_in, content_of, line_of}
-use Rattle.typed_pairs.specs.Lemmas.{pair_content}
-use Rattle.typed_pairs.specs.PairLines.{PairLine, PassedLine}
+use Rattle.typed_pairs.specs.Pairs.{pair_of, pair_in}
+use Rattle.typed_pairs.specs.PairLines.{PairLine}
 
 -- ---- the pair of two parts
-
-pair_there : (word : TypedWord) (figure : TypedFigure) (rest : List ℕ) (w : ℕ) (z : ℤ) → pair_of word figure rest ≡ TypedLine.Pair w z
-    → (word ≡ TypedWord.Word w) × ((figure ≡ TypedFigure.Millionths z) × (rest ≡ []))
-pair_there (TypedWord.Word v) (TypedFigure.Millionths y) [] w z e = (cc, (cc, refl))
-pair_there (TypedWord.Word v) (TypedFigure.Millionths y) (c ∷ t) w z e = let k : ◌≡◌ {A = ℕ} 0 1 = cc in absurd (omega arith)
-pair_there (TypedWord.Word v) TypedFigure.Unread rest w z e = let k : ◌≡◌ {A = ℕ} 0 1 = cc in absurd (omega arith)
-pair_there TypedWord.Unread figure rest w z e = let k : ◌≡◌ {A = ℕ} 0 1 = cc in absurd (omega arith)
 
 pair_not-passed : (word : TypedWord) (figure : TypedFigure) (rest : List ℕ) → pair_of word figure rest ≡ TypedLine.Passed → ⊥
 pair_not-passed (TypedWord.Word v) (TypedFigure.Millionths y) [] e = let k : ◌≡◌ {A = ℕ} 0 1 = cc in absurd (omega arith)
@@ -35,32 +27,16 @@ pair_not-passed (TypedWord.Word v) (TypedFigure.Millionths y) (c ∷ t) e = let 
 pair_not-passed (TypedWord.Word v) TypedFigure.Unread rest e = let k : ◌≡◌ {A = ℕ} 0 1 = cc in absurd (omega arith)
 pair_not-passed TypedWord.Unread figure rest e = let k : ◌≡◌ {A = ℕ} 0 1 = cc in absurd (omega arith)
 
-not-passed : (t : List ℕ) → pair_in t ≡ TypedLine.Passed → ⊥
+pub not-passed : (t : List ℕ) → pair_in t ≡ TypedLine.Passed → ⊥
 unfolding pair_in
 not-passed t e = pair_not-passed (word_of (first_part (skip_blanks t))) (figure_of (first_part (behind_first t))) (skip_blanks (behind_part (behind_first t))) e
 
 -- no figure is empty
-no_figure : (z : ℤ) → figure_of [] ≡ TypedFigure.Millionths z → ⊥
+pub no_figure : (z : ℤ) → figure_of [] ≡ TypedFigure.Millionths z → ⊥
 unfolding figure_of parts_read
 no_figure z e = let k : ◌≡◌ {A = ℕ} 0 1 = cc in absurd (omega arith)
 
-parts-found : (t : List ℕ) (w : ℕ) (z : ℤ) → pair_in t ≡ TypedLine.Pair w z → length t ≤ 200 → PairLine t w z
-unfolding pair_in
-parts-found t w z e short =
-    let a = first_part (skip_blanks t) in
-    let b = first_part (behind_first t) in
-    let p = pair_there (word_of a) (figure_of b) (skip_blanks (behind_part (behind_first t))) w z e in
-    let eight = (word_exactly a w).0 p.0 in
-    let found : Found t a b = record {
-      first = refl;
-      second = refl;
-      nothing_behind = p.1.1;
-      first_there = λ (k : a ≡ []). omega (arith, eight.0, ap length k);
-      second_there = λ (k : b ≡ []). no_figure z (ap figure_of (sym k) ∙ p.1.0);
-    } in
-    record { word = a; figure = b; short = short; parts = (two_parts t a b).0 found; eight = eight; typed = (typed_exactly b z).0 p.1.0 }
-
-parts_read_lem : (t : List ℕ) (w : ℕ) (z : ℤ) → PairLine t w z → pair_in t ≡ TypedLine.Pair w z
+pub parts_read_lem : (t : List ℕ) (w : ℕ) (z : ℤ) → PairLine t w z → pair_in t ≡ TypedLine.Pair w z
 unfolding pair_in
 parts_read_lem t w z p =
     let f = (two_parts t p.word p.figure).1 p.parts in
@@ -76,7 +52,7 @@ digit_no_comment : (c d : ℕ) → digit_of c ≡ d → d < 16 → c ≡ 35 → 
 unfolding digit_of
 digit_no_comment c d e h k = let n : digit_of 35 ≡ d = ap digit_of (sym k) ∙ e in omega (arith, n)
 
-no_comment : (before a m ds : List ℕ) → Blanks before → length a ≡ 8 → AreDigits a ds
+pub no_comment : (before a m ds : List ℕ) → Blanks before → length a ≡ 8 → AreDigits a ds
     → (length (before ++ (a ++ m)) ≡ 0 → ⊥) × (get_or (before ++ (a ++ m)) 0 0 ≡ 35 → ⊥)
 no_comment (b ∷ before) a m ds (inl h, more) n are = (λ k. omega arith, λ k. omega arith)
 no_comment (b ∷ before) a m ds (inr h, more) n are = (λ k. omega arith, λ k. omega arith)
@@ -86,71 +62,11 @@ no_comment [] (c ∷ a) m (d ∷ ds) h n are = (λ k. omega arith, λ k. digit_n
 
 -- ---- the content
 
-content_there : (t : List ℕ) (w : ℕ) (z : ℤ) → content_of t ≡ TypedLine.Pair w z → PairLine t w z
-content_there [] w z e = let k : ◌≡◌ {A = ℕ} 0 1 = cc in absurd (omega arith)
-content_there (c ∷ t) w z e = by (eqb c 35) (ltb 200 (length (c ∷ t))) refl e
-  where
-    by : (a b : Bool) → ltb 200 (length (c ∷ t)) ≡ b → cond a TypedLine.Passed (cond b TypedLine.Unread (pair_in (c ∷ t))) ≡ TypedLine.Pair w z → PairLine (c ∷ t) w z
-    by true b f e = let k : ◌≡◌ {A = ℕ} 0 1 = cc in absurd (omega arith)
-    by false true f e = let k : ◌≡◌ {A = ℕ} 0 1 = cc in absurd (omega arith)
-    by false false f e = parts-found (c ∷ t) w z e (ltb-false 200 (length (c ∷ t)) f)
-
-content_read : (t : List ℕ) (w : ℕ) (z : ℤ) → PairLine t w z → content_of t ≡ TypedLine.Pair w z
-content_read t w z p =
-    let s = p.parts in
-    let starts = no_comment s.before p.word (s.between ++ (p.figure ++ s.behind)) p.eight.1.0 s.before_blank p.eight.0 p.eight.1.1 in
-    pair_content t (λ k. starts.0 (ap length (sym s.text) ∙ k)) (λ k. starts.1 (ap (λ (r : List ℕ). get_or r 0 0) (sym s.text) ∙ k)) p.short
-    ∙ parts_read_lem t w z p
-
-content-passed : (t : List ℕ) → content_of t ≡ TypedLine.Passed → PassedLine t
-content-passed [] e = inl refl
-content-passed (c ∷ t) e = by (eqb c 35) (ltb 200 (length (c ∷ t))) refl e
-  where
-    by : (a b : Bool) → eqb c 35 ≡ a → cond a TypedLine.Passed (cond b TypedLine.Unread (pair_in (c ∷ t))) ≡ TypedLine.Passed → PassedLine (c ∷ t)
-    by true b f e = inr (t, ap (λ (x : ℕ). x ∷ t) (eqb-true c 35 f))
-    by false true f e = let k : ◌≡◌ {A = ℕ} 0 1 = cc in absurd (omega arith)
-    by false false f e = absurd (not-passed (c ∷ t) e)
-
-passed-content : (t : List ℕ) → PassedLine t → content_of t ≡ TypedLine.Passed
-passed-content t (inl e) = ap content_of e
-passed-content t (inr (rest, e)) = ap content_of e
-
 -- ---- the laws
-
--- A line is a pair exactly where its word and its figure are typed in it.
-pub pair_exactly : (l : List ℕ) (w : ℕ) (z : ℤ) → (line_of l ≡ TypedLine.Pair w z) ↔ PairLine (without_return l) w z
-unfolding line_of
-pair_exactly l w z = (content_there (without_return l) w z, content_read (without_return l) w z)
-
--- A line is passed over exactly where it is empty or a comment.
-pub passed_exactly : (l : List ℕ) → (line_of l ≡ TypedLine.Passed) ↔ PassedLine (without_return l)
-unfolding line_of
-passed_exactly l = (content-passed (without_return l), passed-content (without_return l))
-
--- The word of a pair has 32 bits, and 64 bits hold its figure.
-pub pair_within : (l : List ℕ) (w : ℕ) (z : ℤ) → line_of l ≡ TypedLine.Pair w z → (w < 2 ^ 32) × Fits z
-pair_within l w z e =
-    let p = (pair_exactly l w z).0 e in
-    (word_within p.word w ((word_exactly p.word w).1 p.eight), p.typed.fits)
 
 -- ---- a line that is too long
 
-without_return_length : (l : List ℕ) → length l ≤ suc (length (without_return l))
+pub without_return_length : (l : List ℕ) → length l ≤ suc (length (without_return l))
 without_return_length [] = omega arith
 without_return_length (c ∷ []) = omega arith
 without_return_length (c ∷ d ∷ l) = omega (arith, without_return_length (d ∷ l))
-
--- Its answer is that of its first byte.
-pub long_line : (c : ℕ) (l : List ℕ) → 201 ≤ length l → line_of (c ∷ l) ≡ cond (eqb c 35) TypedLine.Passed TypedLine.Unread
-unfolding line_of
-long_line c [] h = absurd (omega arith)
-long_line c (d ∷ l) h =
-    ap (λ (b : Bool). cond (eqb c 35) TypedLine.Passed (cond b TypedLine.Unread (pair_in (c ∷ without_return (d ∷ l)))))
-    (lt-ltb 200 (suc (length (without_return (d ∷ l)))) (omega (arith, without_return_length (d ∷ l))))
-
--- So of a line of 202 bytes or more all behind the first 202 may be left out, or be anything.
-pub long_alike : (n : ℕ) (l s : List ℕ) → 202 ≤ n → 202 ≤ length l → line_of (take n l ++ s) ≡ line_of l
-long_alike n [] s k h = absurd (omega arith)
-long_alike zero (c ∷ l) s k h = absurd (omega arith)
-long_alike (suc n) (c ∷ l) s k h =
-    long_line c (take n l ++ s) (omega (arith, length-append (take n l) s, length-take n l)) ∙ sym (long_line c l (omega arith))

@@ -1,7 +1,8 @@
 // What a typed line of a word and a figure is: the definitions and their laws stand in specs/.
+#![tactic(auto)]
 
 // What a typed line is.
-#[derive(Drop)]
+#[derive(Clone, Copy)]
 pub enum TypedLine {
     // empty, or a comment: passed over
     Passed,

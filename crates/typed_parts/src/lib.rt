@@ -1,4 +1,6 @@
 // The parts of a typed text: what stands before and behind a byte, as a line break or a blank.
+#![tactic(auto)]
+
 ghost use Rattle.std.specs.Prelude.{◌≡◌, length};
 ghost use Rattle.typed_texts.specs.Texts.{text_before, text_behind, starts_with};
 

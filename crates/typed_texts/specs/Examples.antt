@@ -1,6 +1,6 @@
 -- Texts taken apart and numbers read: what the definitions compute to.
 -- Assumes nothing.
-use Rattle.std.specs.Prelude.{◌≡◌, refl, true, false, [], ◌∷◌}
+use Rattle.std.specs.Prelude.{◌≡◌, refl, false, [], ◌∷◌}
 use Rattle.typed_texts.specs.Texts.{text_before, text_behind, unsigned}
 use Rattle.typed_texts.specs.Numbers.{digit_of, numeral, numeral_of}
 
@@ -10,16 +10,6 @@ before_blank = refl
 
 behind_blank : text_behind 32 (45 ∷ 49 ∷ 70 ∷ 32 ∷ 56 ∷ []) ≡ 56 ∷ []
 behind_blank = refl
-
--- `-1F` without its sign is 31 in base 16, no number in base 10, and none up to 30
-hexadecimal : numeral_of 16 31 (unsigned (45 ∷ 49 ∷ 70 ∷ [])) ≡ numeral true 31
-unfolding digit_of
-hexadecimal = refl
-
--- `1f` is the same
-small_letter : numeral_of 16 31 (49 ∷ 102 ∷ []) ≡ numeral true 31
-unfolding digit_of
-small_letter = refl
 
 no_decimal : numeral_of 10 31 (unsigned (45 ∷ 49 ∷ 70 ∷ [])) ≡ numeral false 0
 unfolding digit_of

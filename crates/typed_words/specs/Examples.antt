@@ -6,10 +6,6 @@ use Rattle.typed_texts.specs.Numbers.{digit_of}
 use Rattle.typed_words.specs.declared.TypedWord.{TypedWord}
 use Rattle.typed_words.specs.Words.{word_of}
 
-either_case : word_of (ascii "6aB0041f") ≡ TypedWord.Word 0x6AB0041F
-unfolding digit_of
-either_case = refl
-
 -- a blank is no digit, and neither is a letter behind F
 blank_before : word_of (ascii " 6AB0041") ≡ TypedWord.Unread
 unfolding digit_of
@@ -21,6 +17,3 @@ letter_behind = refl
 
 seven : word_of (ascii "6AB0041") ≡ TypedWord.Unread
 seven = refl
-
-nine : word_of (ascii "06AB0041F") ≡ TypedWord.Unread
-nine = refl

@@ -9,13 +9,13 @@ use Rattle.hex_texts.specs.HexTexts.{hex_digit, hex_byte, word_text}
 use Rattle.hex_texts.specs.Reading.{hex_digits, place_in}
 use Rattle.hex_texts.specs.Every.{every-at, both}
 use Rattle.typed_texts.specs.Numbers.{digit_of, value_of, are_digits}
-use Rattle.typed_texts.specs.NumberLaws.{first_weighs}
-use Rattle.typed_words.specs.Eight.{small_digits, IsDigit, AreDigits, weighed, capital, capitals, InCapitals}
+use Rattle.typed_texts.proofs.NumberLaws.{first_weighs}
+use Rattle.typed_words.specs.Eight.{small_digits, capital, capitals, InCapitals}
 
 -- ---- a digit
 
 -- what stands at the place of a byte is the byte
-place_back : (l : List ℕ) (c : ℕ) → place_in l c < length l → get_or l (place_in l c) 0 ≡ c
+pub place_back : (l : List ℕ) (c : ℕ) → place_in l c < length l → get_or l (place_in l c) 0 ≡ c
 place_back [] c h = absurd (omega arith)
 place_back (x ∷ l) c h = by (eqb c x) refl h (place_back l c)
   where
@@ -25,19 +25,9 @@ place_back (x ∷ l) c h = by (eqb c x) refl h (place_back l c)
     by false e k later = later (omega arith)
 
 -- the digits of both lists: computed for the sixteen places
-capital-at : (d : ℕ) → d < 16 → digit_of (get_or hex_digits d 0) ≡ d
+pub capital-at : (d : ℕ) → d < 16 → digit_of (get_or hex_digits d 0) ≡ d
 unfolding digit_of
 capital-at d h = eqb-true (digit_of (get_or hex_digits d 0)) d (every-at (λ (x : ℕ). eqb (digit_of (get_or hex_digits x 0)) x) 16 refl d h)
-
-small_at : (d : ℕ) → d < 16 → digit_of (get_or small_digits d 0) ≡ d
-unfolding digit_of
-small_at d h = eqb-true (digit_of (get_or small_digits d 0)) d (every-at (λ (x : ℕ). eqb (digit_of (get_or small_digits x 0)) x) 16 refl d h)
-
-pub digit_there : (c d : ℕ) → IsDigit c d → digit_of c ≡ d
-digit_there c d (h, inl e) =
-    ap digit_of (sym (place_back hex_digits c (omega (arith, e))) ∙ ap (λ (n : ℕ). get_or hex_digits n 0) e) ∙ capital-at d h
-digit_there c d (h, inr e) =
-    ap digit_of (sym (place_back small_digits c (omega (arith, e))) ∙ ap (λ (n : ℕ). get_or small_digits n 0) e) ∙ small_at d h
 
 -- no digit stands behind `f`
 behind_f : (c : ℕ) → 103 ≤ c → digit_of c ≡ 255
@@ -47,7 +37,7 @@ behind_f c h =
     (le-ltb c 48 (omega arith), lt-leb c 57 (omega arith), le-ltb c 65 (omega arith), lt-leb c 70 (omega arith), le-ltb c 97 (omega arith), lt-leb c 102 (omega arith))
 
 -- a test of every digit: computed for the bytes up to `f`
-of-digits : (p : ℕ → Bool) (c : ℕ) → ((x : ℕ) → x < 103 → (not (ltb (digit_of x) 16) || p x) ≡ true) → digit_of c < 16 → p c ≡ true
+pub of-digits : (p : ℕ → Bool) (c : ℕ) → ((x : ℕ) → x < 103 → (not (ltb (digit_of x) 16) || p x) ≡ true) → digit_of c < 16 → p c ≡ true
 of-digits p c all h = by (dec_le 103 c)
   where
     passed : (b : Bool) → (not true || b) ≡ true → b ≡ true
@@ -57,33 +47,12 @@ of-digits p c all h = by (dec_le 103 c)
     by (yes k) = absurd (omega (arith, behind_f c k))
     by (no k) = passed (p c) (ap (λ (b : Bool). not b || p c) (sym (lt-ltb (digit_of c) 16 h)) ∙ all c (omega arith))
 
-either : (a b : Bool) → (a || b) ≡ true → (a ≡ true) ⊎ (b ≡ true)
+pub either : (a b : Bool) → (a || b) ≡ true → (a ≡ true) ⊎ (b ≡ true)
 either true b e = inl refl
 either false b e = inr e
 
-abbrev placed : ℕ → Bool
+abbrev pub placed : ℕ → Bool
 placed x = eqb (place_in hex_digits x) (digit_of x) || eqb (place_in small_digits x) (digit_of x)
-
-places_tested : (x : ℕ) → x < 103 → (not (ltb (digit_of x) 16) || placed x) ≡ true
-unfolding digit_of
-places_tested = every-at (λ (x : ℕ). not (ltb (digit_of x) 16) || placed x) 103 refl
-
-pub is_digit : (c : ℕ) → digit_of c < 16 → IsDigit c (digit_of c)
-is_digit c h = (h, by (either (eqb (place_in hex_digits c) (digit_of c)) (eqb (place_in small_digits c) (digit_of c)) (of-digits placed c places_tested h)))
-  where
-    by : (eqb (place_in hex_digits c) (digit_of c) ≡ true) ⊎ (eqb (place_in small_digits c) (digit_of c) ≡ true)
-        → (place_in hex_digits c ≡ digit_of c) ⊎ (place_in small_digits c ≡ digit_of c)
-    by (inl e) = inl (eqb-true (place_in hex_digits c) (digit_of c) e)
-    by (inr e) = inr (eqb-true (place_in small_digits c) (digit_of c) e)
-
--- a digit written is the typed one with a capital
-capitals-tested : (x : ℕ) → x < 103 → (not (ltb (digit_of x) 16) || eqb (hex_digit (digit_of x)) (capital x)) ≡ true
-unfolding digit_of
-capitals-tested = every-at (λ (x : ℕ). not (ltb (digit_of x) 16) || eqb (hex_digit (digit_of x)) (capital x)) 103 refl
-
-digit-capital : (c : ℕ) → digit_of c < 16 → hex_digit (digit_of c) ≡ capital c
-digit-capital c h =
-    eqb-true (hex_digit (digit_of c)) (capital c) (of-digits (λ (x : ℕ). eqb (hex_digit (digit_of x)) (capital x)) c capitals-tested h)
 
 -- a digit of the capitals is left
 capital-left : (c : ℕ) → place_in hex_digits c < 16 → capital c ≡ c
@@ -105,29 +74,9 @@ abbrev pub digits_of : List ℕ → List ℕ
 digits_of [] = []
 digits_of (c ∷ t) = digit_of c ∷ digits_of t
 
-same_length : (t : List ℕ) → length (digits_of t) ≡ length t
+pub same_length : (t : List ℕ) → length (digits_of t) ≡ length t
 same_length [] = refl
 same_length (c ∷ t) = ap suc (same_length t)
-
-pub digits_weigh : (t : List ℕ) → value_of 16 t ≡ weighed (digits_of t)
-digits_weigh [] = refl
-digits_weigh (c ∷ t) =
-    first_weighs 16 c t ∙ ap₂ (λ (n v : ℕ). digit_of c * 16 ^ n + v) (sym (same_length t)) (digits_weigh t)
-
-pub digits_there : (t : List ℕ) → are_digits 16 t ≡ true → AreDigits t (digits_of t)
-digits_there [] e = tt
-digits_there (c ∷ t) e =
-    let parts = both (ltb (digit_of c) 16) (are_digits 16 t) e in
-    (is_digit c (ltb-true (digit_of c) 16 parts.0), digits_there t parts.1)
-
-pub are_digits_lem : (t ds : List ℕ) → AreDigits t ds → (are_digits 16 t ≡ true) × (ds ≡ digits_of t)
-are_digits_lem [] [] h = (refl, refl)
-are_digits_lem [] (d ∷ ds) h = absurd h
-are_digits_lem (c ∷ t) [] h = absurd h
-are_digits_lem (c ∷ t) (d ∷ ds) h =
-    let e = digit_there c d h.0 in
-    let rest = are_digits_lem t ds h.1 in
-    (ap₂ ◌&&◌ (lt-ltb (digit_of c) 16 (omega (arith, e, h.0.0))) rest.0, ap₂ ◌∷◌ (sym e) rest.1)
 
 -- each is a digit below 16, and written again it is the typed one with a capital
 abbrev pub Small : List ℕ → Type 0
@@ -143,10 +92,6 @@ all_small (c ∷ t) e =
 abbrev pub written : List ℕ → List ℕ
 written [] = []
 written (c ∷ t) = hex_digit (digit_of c) ∷ written t
-
-pub all-capitals : (t : List ℕ) → Small t → written t ≡ capitals t
-all-capitals [] h = refl
-all-capitals (c ∷ t) h = ap₂ ◌∷◌ (digit-capital c h.0) (all-capitals t h.1)
 
 pub capitals-left : (t : List ℕ) → InCapitals t → capitals t ≡ t
 capitals-left [] h = refl

@@ -6,14 +6,14 @@ use decode::Decoded;
 use measurements::Measurement;
 
 // The field just before a figure in its group: a word, or anything else or nothing.
-#[derive(Drop)]
+#[derive(Clone, Copy)]
 pub enum Previous {
     Word(u32),
     Other,
 }
 
 // What the listing says of a figure.
-#[derive(Drop)]
+#[derive(Clone, Copy)]
 pub enum Verdict {
     Agrees,
     Differs,

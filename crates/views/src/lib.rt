@@ -1,4 +1,6 @@
 // What every record has, whatever its kind: a status and a value, or a part's number and content.
+#![tactic(auto)]
+
 ghost use Rattle.std.specs.Prelude.{◌≡◌, ◌+◌, ◌*◌};
 ghost use Rattle.views.specs.Views.{is_shown, view_of};
 
@@ -6,7 +8,7 @@ use records::{AzimuthCount, Body, CourseCount, GlideCount, MlsCount};
 use statuses::Status;
 
 // What was selected, or sent as the greatest, by hand or not where the word tells it.
-#[derive(Drop)]
+#[derive(Clone, Copy)]
 pub enum Setting {
     // 153, in degrees
     SelectedAzimuth { manual: bool, degrees: u16 },
@@ -17,7 +19,7 @@ pub enum Setting {
 }
 
 // What a word with a status holds: a count of one of the five measured quantities, a frequency in tens of kHz, or a setting.
-#[derive(Drop)]
+#[derive(Clone, Copy)]
 pub enum Value {
     Azimuth(AzimuthCount),
     Course(CourseCount),
@@ -29,7 +31,7 @@ pub enum Value {
 }
 
 // A record without its source and the flags that only its own kind has.
-#[derive(Drop)]
+#[derive(Clone, Copy)]
 pub enum View {
     Value(Status, Value),
     // a part of the MLS auxiliary data, 1 to 4, and its 16 bits

@@ -1,11 +1,7 @@
 -- The part of a sheet up to an end: where the sheet is shorter, and that a field that stands in it ends within it, with its content.
 -- Assumes nothing.
 use Rattle.std.specs.Prelude.{◌≡◌, refl, Bool, true, false, List, ℕ, ◌+◌, ◌-◌, ◌≤◌, ◌<◌, min, ltb, length, take, drop}
-use Rattle.std.proofs.Common.{sym, ap, ◌∙◌, arith, ltb-true, ltb-false, length-take, length-drop, take_all, take-add, take-take, drop_at, drop-drop, length-take-le}
-use Rattle.fields.specs.declared.FieldKind.{FieldKind}
-use Rattle.fields.specs.declared.Start.{Start}
-use Rattle.fields.specs.Start.{start_of}
-use Rattle.fields.specs.Laws.{whole-field}
+use Rattle.std.proofs.Common.{sym, ap, ◌∙◌, arith, ltb-true, ltb-false, take_all, take-add, drop_at, length-take-le}
 
 -- no part is longer than the sheet
 pub take_min : (e : ℕ) (s : List ℕ) → take (min e (length s)) s ≡ take e s
@@ -30,19 +26,3 @@ pub record Within (s : List ℕ) (p e n : ℕ) : Type 0 where
   pub enclosed : p + 3 + n ≤ e
   pub in_sheet : p + 3 + n ≤ length s
   pub content : take n (drop 3 (drop p (take e s))) ≡ drop (p + 3) (take (p + 3 + n) s)
-
-pub within : (d p e : ℕ) (s : List ℕ) (k : FieldKind) (n : ℕ) → start_of d (drop p (take e s)) ≡ Start.Field k n → Within s p e n
-within d p e s k n h =
-    let room : 3 + n ≤ length (drop p (take e s)) = (whole-field d (drop p (take e s)) k n h).room in
-    let left : length (drop p (take e s)) ≡ length (take e s) - p = length-drop p (take e s) in
-    let part : length (take e s) ≡ min e (length s) = length-take e s in
-    let inPart : p + 3 ≤ length (take e s) = omega arith in
-    let near : p + 3 + n ≤ e = omega arith in
-    record {
-      enclosed = near;
-      in_sheet = omega arith;
-      content =
-          ap (take n) (drop-drop 3 p (take e s))
-          ∙ sym (drop-take (p + 3) n (take e s) inPart)
-          ∙ ap (drop (p + 3)) (take-take (p + 3 + n) e s near);
-    }

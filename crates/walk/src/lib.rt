@@ -1,9 +1,11 @@
 // What a walk over a sheet is: its fields one by one, in the order of the tags, a group before its inside. The definitions and their laws stand in specs/.
+#![tactic(auto)]
+
 use fields::FieldKind;
 use refusals::Refusal;
 
 // Where a walk stands: the offset of the next field's tag, and the ends of the groups at depth 1, 2 and 3 that were entered last. Only an end past the place counts.
-#[derive(Drop)]
+#[derive(Clone, Copy)]
 pub struct Position {
     pub place: usize,
     pub end1: usize,
@@ -12,14 +14,14 @@ pub struct Position {
 }
 
 // The innermost run that a place lies in.
-#[derive(Drop)]
+#[derive(Clone, Copy)]
 pub struct Level {
     pub depth: u8,
     pub end: usize,
 }
 
 // A walk over a sheet.
-#[derive(Drop)]
+#[derive(Clone, Copy)]
 pub enum Walk {
     // It stands at a place of a legal sheet.
     At(Position),
@@ -28,7 +30,7 @@ pub enum Walk {
 }
 
 // A field of a sheet: the offset of its tag, its depth, what it holds, and the length of its content, which starts 3 bytes after the tag.
-#[derive(Drop)]
+#[derive(Clone, Copy)]
 pub struct FieldAt {
     pub place: usize,
     pub depth: u8,
@@ -37,7 +39,7 @@ pub struct FieldAt {
 }
 
 // What one step of a walk gives.
-#[derive(Drop)]
+#[derive(Clone, Copy)]
 pub enum Given {
     // The next field.
     Field(FieldAt),
@@ -48,7 +50,7 @@ pub enum Given {
 }
 
 // What a step gives, and the walk after it.
-#[derive(Drop)]
+#[derive(Clone, Copy)]
 pub struct WalkStep {
     pub given: Given,
     pub next: Walk,

@@ -1,6 +1,9 @@
 // Walking a sheet field by field.
+#![tactic(auto)]
+
 ghost use Rattle.std.specs.Prelude.{◌≡◌, ℕ, ◌+◌, ◌<◌, min};
-ghost use Rattle.walk.specs.Step.{start_walk, level_of, entered, next_of, given_at, step_at, step_of};
+ghost use Rattle.walk.specs.Step.{start_walk, entered, next_of, given_at, step_at};
+ghost use Rattle.walk.specs.Step.{level_of, step_of};
 
 use fields::{FieldKind, Start};
 use sheet::Checked;

@@ -7,8 +7,9 @@ use Rattle.records.specs.All.{kinds, agree}
 use Rattle.records.specs.declared.Kind.{Kind}
 use Rattle.records.specs.declared.Kind.TheVariants.{VorAzimuth, VorFrequency, IlsCourse, IlsGlide, IlsFrequency, MlsFrequency, MlsAzimuthDeviation, MlsGlideDeviation, SelectedAzimuth, GreatestGlideAngle, SelectedGlideAngle, Part1, Part2, Part3, Part4}
 use Rattle.labels.specs.Label.{label_of}
-use Rattle.labels.specs.LabelLaws.{label_byte}
-use Rattle.labels.specs.Table.{label_number, byte_of, rows, find_kind, found, only}
+use Rattle.labels.proofs.LabelLaws.{label_byte}
+use Rattle.labels.specs.Table.{label_number, byte_of, rows, find_kind, only}
+use Rattle.labels.proofs.Table.{found}
 use Rattle.word_kinds.specs.declared.KindLabel.{KindLabel}
 use Rattle.labels.specs.declared.Lookup.{Lookup}
 use Rattle.labels.specs.declared.Lookup.TheVariants.{Known, Unknown}

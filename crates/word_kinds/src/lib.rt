@@ -1,4 +1,6 @@
 // The kind that a word's label stands for, found at once.
+#![tactic(auto)]
+
 ghost use Rattle.std.specs.Prelude.{◌≡◌, ◌%◌};
 ghost use Rattle.labels.specs.Label.{label_of};
 ghost use Rattle.labels.specs.Table.{rows, find_kind};
@@ -8,7 +10,7 @@ use labels::Lookup;
 use records::Kind;
 
 // A kind and its label.
-#[derive(Drop)]
+#[derive(Clone, Copy)]
 struct KindLabel(Kind, u32);
 
 // The only kind that a word can be of, by a hash of its lowest byte that no two labels share.

@@ -1,4 +1,6 @@
 // The label of a word, bit by bit.
+#![tactic(auto)]
+
 ghost use Rattle.std.specs.Prelude.{◌≡◌, ◌-◌, ◌^◌, ◌≤◌};
 ghost use Rattle.labels.specs.Label.{bit, label_of};
 

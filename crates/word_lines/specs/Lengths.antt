@@ -9,13 +9,14 @@ use Rattle.bits.specs.Complement.{signed, signed-holds}
 use Rattle.rounding.specs.Rounding.{round_even}
 use Rattle.rounding.specs.Parts as parts
 use Rattle.frequencies.specs.Frequencies.{frequency_of, tens_le, offset-le, frequency_in}
-use Rattle.refusals.specs.Numbers.{number_of, number-bounds}
+use Rattle.refusals.specs.Numbers.{number_of}
+use Rattle.refusals.proofs.Numbers.{number-bounds}
 use Rattle.frequencies.specs.declared.Band.{Band}
 use Rattle.records.specs.declared.Kind.{Kind}
 use Rattle.records.specs.declared.Record.{Record}
 use Rattle.refusals.specs.declared.Refusal.{Refusal}
 use Rattle.statuses.specs.declared.Status.{Status}
-use Rattle.labels.specs.Assignment.{document01}
+use Rattle.labels.proofs.Assignment.{document01}
 use Rattle.labels.specs.Label.{label_of}
 use Rattle.decode.specs.Rules.{body_of}
 use Rattle.decode.specs.Decode.{decode_of}

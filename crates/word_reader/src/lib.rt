@@ -1,4 +1,6 @@
 // Reads a word typed in hex.
+#![tactic(auto)]
+
 ghost use Rattle.std.specs.Prelude.{◌≡◌};
 ghost use Rattle.typed_words.specs.Words.{word_of};
 

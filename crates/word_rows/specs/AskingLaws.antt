@@ -7,12 +7,13 @@ use Rattle.std.specs.Int.Count.{ones_in}
 use Rattle.std.proofs.Math.Pow.{mod-mod-pow}
 use Rattle.bits.specs.Fields.{bits}
 use Rattle.bits.specs.Layout.{clear, mask}
-use Rattle.bits.specs.Laws.{mask_test}
+use Rattle.bits.proofs.Laws.{mask_test}
 use Rattle.bits.specs.Parity.{odd}
 use Rattle.codes.specs.Codes.{marker_listed}
 use Rattle.refusals.specs.declared.Refusal.{Refusal}
 use Rattle.records.specs.All.{agree}
-use Rattle.records.specs.Layouts.{word_layout, whole}
+use Rattle.records.specs.Layouts.{word_layout}
+use Rattle.records.proofs.Layouts.{whole}
 use Rattle.records.specs.declared.Kind.{Kind}
 use Rattle.records.specs.declared.Record.{Record}
 use Rattle.labels.specs.BytesLemmas.{every, every-at}

@@ -6,7 +6,7 @@ use Rattle.bits.specs.Fields.{bits}
 use Rattle.records.specs.All.{agree}
 use Rattle.records.specs.declared.Kind.{Kind}
 use Rattle.labels.specs.Label.{label_of}
-use Rattle.labels.specs.LabelLaws.{label_low, label_byte}
+use Rattle.labels.proofs.LabelLaws.{label_low, label_byte}
 use Rattle.labels.specs.Table.{label_number, byte_of, rows, find_kind}
 use Rattle.labels.specs.declared.Lookup.{Lookup}
 use Rattle.word_kinds.specs.HashLemmas.{candidate_of, kind_hit, kind_miss}

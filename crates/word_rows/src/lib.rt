@@ -1,9 +1,11 @@
 // What the words of each kind are asked, as numbers, found at once by the lowest byte of a word.
+#![tactic(auto)]
+
 ghost use Rattle.std.specs.Prelude.{◌≡◌, ◌%◌};
 ghost use Rattle.word_rows.specs.Rows.{candidate, packed, unpacked, asked};
 
 // What the words of a kind are asked.
-#[derive(Drop)]
+#[derive(Clone, Copy)]
 pub struct Asked {
     // bits 1 to 8
     pub byte: u32,

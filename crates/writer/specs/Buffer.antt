@@ -1,17 +1,11 @@
 -- What stands in the buffer after writing a field: its bytes at the place, every other byte as before, and nothing new on a refusal.
 -- Assumes nothing.
-use Rattle.std.specs.Prelude.{◌≡◌, refl, List, ◌++◌, ◌⊎◌, ℕ, ◌+◌, ◌-◌, ◌^◌, ◌<◌, ◌≤◌, ℤ, length, get_or, take, drop}
-use Rattle.std.proofs.Common.{sym, ap, ◌∙◌, append_assoc, inl, inr, arith, length-append, length-drop, length-take-le, take_at, drop_at, drop-drop, get_or-append-add, get_or-take, get_or-drop}
-use Rattle.std.proofs.Math.ListN.{get_or-append}
-use Rattle.std.proofs.Math.Seq.{take-append_seam}
+use Rattle.std.specs.Prelude.{◌≡◌, refl, List, ◌++◌, ℕ, ◌+◌, ◌-◌, length, take, drop}
+use Rattle.std.proofs.Common.{ap, ◌∙◌, arith, length-append, length-take-le}
 use Rattle.refusals.specs.declared.Refusal.{Refusal}
 use Rattle.fields.specs.declared.FieldKind.{FieldKind}
 use Rattle.fields.specs.Start.{field_bytes}
 use Rattle.fields.specs.Run.{Field, Scan, Fields, Refused, inside_of}
-use Rattle.bits.specs.Complement.{Holds}
-use Rattle.contents.specs.declared.WordIn.{WordIn}
-use Rattle.contents.specs.declared.FigureIn.{FigureIn}
-use Rattle.contents.specs.Contents.{word_bytes, figure_bytes, word_in, figure_in, word_read, figure_read}
 use Rattle.writer.specs.declared.Written.{Written}
 use Rattle.writer.specs.Write.{buffer_of, write_of, unless_refused, group_of}
 use Rattle.writer.specs.Answers.{Ends, ends}
@@ -22,61 +16,19 @@ pub unchanged : (out : List ℕ) (place : ℕ) (k : FieldKind) (c : List ℕ) (f
 unchanged out place k c f p e = ap (λ (w : Written). buffer_of w out place (field_bytes k c)) e
 
 module _ (out : List ℕ) (place : ℕ) (k : FieldKind) (c : List ℕ) (end : ℕ) (done : (write_of out place k c).answer ≡ Written.End end) where
-  abbrev bounds : Ends (length out) place (length c) end
+  abbrev pub bounds : Ends (length out) place (length c) end
   bounds = ends (length out) place (length c) end done
 
-  abbrev after : List ℕ
+  abbrev pub after : List ℕ
   after = take place out ++ field_bytes k c ++ drop end out
 
-  is_after : (write_of out place k c).buffer ≡ after
-  is_after = ap (λ (w : Written). buffer_of w out place (field_bytes k c)) done
-
-  before_length : length (take place out) ≡ place
+  pub before_length : length (take place out) ≡ place
   before_length = length-take-le place out (omega (arith, bounds.space))
 
-  front_length : length (take place out ++ field_bytes k c) ≡ end
+  pub front_length : length (take place out ++ field_bytes k c) ≡ end
   front_length =
       let p : length (take place out) ≡ place = before_length in
       length-append (take place out) (field_bytes k c) ∙ omega (arith, bounds.at)
-
-  -- the buffer up to the field's end
-  pub up_to_end : take end (write_of out place k c).buffer ≡ take place out ++ field_bytes k c
-  up_to_end = ap (take end) is_after ∙ take_at (take place out ++ field_bytes k c) (drop end out) end front_length
-
-  -- the buffer keeps its length
-  pub same_length : length (write_of out place k c).buffer ≡ length out
-  same_length =
-      let f : length (take place out ++ field_bytes k c) ≡ end = front_length in
-      let d : length (drop end out) ≡ length out - end = length-drop end out in
-      ap length is_after ∙ length-append (take place out ++ field_bytes k c) (drop end out) ∙ omega (arith, bounds.space, bounds.at)
-
-  -- a byte before the field or after it is as it stood
-  pub outside : (i : ℕ) → (i < place) ⊎ (end ≤ i) → get_or (write_of out place k c).buffer i 0 ≡ get_or out i 0
-  outside i (inl h) =
-      let f : length (take place out ++ field_bytes k c) ≡ end = front_length in
-      let p : length (take place out) ≡ place = before_length in
-      ap (λ (l : List ℕ). get_or l i 0) is_after
-      ∙ get_or-append (take place out ++ field_bytes k c) (drop end out) 0 i (omega (arith, bounds.at))
-      ∙ get_or-append (take place out) (field_bytes k c) 0 i (omega arith)
-      ∙ get_or-take place out i 0 h
-  outside i (inr h) =
-      let f : length (take place out ++ field_bytes k c) ≡ end = front_length in
-      let j : ℕ = i - end in
-      let at : i ≡ length (take place out ++ field_bytes k c) + j = omega arith in
-      ap (λ (l : List ℕ). get_or l i 0) is_after
-      ∙ ap (λ (n : ℕ). get_or after n 0) at
-      ∙ get_or-append-add (take place out ++ field_bytes k c) (drop end out) j 0
-      ∙ get_or-drop end out j 0
-      ∙ ap (λ (n : ℕ). get_or out n 0) (omega arith)
-
-  -- the content stands after the header's three bytes
-  pub content_stands : take (length c) (drop (place + 3) (write_of out place k c).buffer) ≡ c
-  content_stands =
-      ap (λ (l : List ℕ). take (length c) (drop (place + 3) l)) (is_after ∙ append_assoc (take place out) (field_bytes k c) (drop end out))
-      ∙ ap (take (length c))
-      (sym (drop-drop 3 place (take place out ++ (field_bytes k c ++ drop end out)))
-      ∙ ap (drop 3) (drop_at (take place out) (field_bytes k c ++ drop end out) place before_length))
-      ∙ take-append_seam c (drop end out)
 
 -- a group that was written has a legal run, and is written as any field
 pub group_written : (out : List ℕ) (place : ℕ) (run : List ℕ) (end : ℕ) → (group_of out place run).answer ≡ Written.End end
@@ -97,14 +49,3 @@ group_unchanged out place run f p = by (inside_of run)
         → (unless_refused i out (write_of out place FieldKind.Group run)).buffer ≡ out
     by (Fields gs) e = unchanged out place FieldKind.Group run f p e
     by (Refused g q) e = refl
-
--- a word that was written is read back
-pub word_back : (out : List ℕ) (place w end : ℕ) → w < 2 ^ 32 → (write_of out place FieldKind.Word (word_bytes w)).answer ≡ Written.End end
-    → word_in (take 4 (drop (place + 3) (write_of out place FieldKind.Word (word_bytes w)).buffer)) ≡ WordIn.Word w
-word_back out place w end h done = ap word_in (content_stands out place FieldKind.Word (word_bytes w) end done) ∙ word_read w h
-
--- a figure that was written is read back
-pub figure_back : (out : List ℕ) (place label : ℕ) (m : ℤ) (end : ℕ) → Holds 64 m
-    → (write_of out place FieldKind.Figure (figure_bytes label m)).answer ≡ Written.End end
-    → figure_in (take 9 (drop (place + 3) (write_of out place FieldKind.Figure (figure_bytes label m)).buffer)) ≡ FigureIn.Figure label m
-figure_back out place label m end h done = ap figure_in (content_stands out place FieldKind.Figure (figure_bytes label m) end done) ∙ figure_read label m h

@@ -1,8 +1,10 @@
 // What writing one field of a sheet at a place of a buffer gives.
+#![tactic(auto)]
+
 use refusals::Refusal;
 
 // What came of writing a field.
-#[derive(Drop)]
+#[derive(Clone, Copy)]
 pub enum Written {
     // It stands in the buffer, and the place after it is this.
     End(usize),

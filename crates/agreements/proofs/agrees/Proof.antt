@@ -3,7 +3,7 @@
 use mathlib.Core.Path.{sym, ap, ap₂, ◌∙◌}
 use borrow.Author.Rules.{rules}
 use mir.Facts.{to_z-of_z}
-use Rattle.labels.specs.Assignment.{document01}
+use Rattle.labels.proofs.Assignment.{document01}
 use Rattle.decode.specs.declared.Decoded.{Decoded}
 use Rattle.agreements.specs.Agreement.{decoded_measurement, holds_nearest}
 use Rattle.agreements.specs.Agreeing.{agrees-tested}

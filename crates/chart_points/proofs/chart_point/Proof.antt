@@ -4,7 +4,8 @@ use Prim.Native.Nat.{ℕ}
 use borrow.Author.Rules.{rules}
 use Rattle.decode.specs.Decode.{decode_of}
 use Rattle.decode.specs.declared.Decoded.{Decoded}
-use Rattle.chart.specs.Words.{chart_decoded, chart_point, PointOfWords, point_of-words}
+use Rattle.chart.specs.Words.{chart_decoded, chart_point, PointOfWords}
+use Rattle.chart.proofs.Words.{point_of-words}
 use Rattle.chart.specs.declared.Charted.{Charted}
 use Rattle.chart_points.proofs.chart_point.Statement.{statement}
 use Rattle.chart_points.proofs.chart_point.Tie as tie

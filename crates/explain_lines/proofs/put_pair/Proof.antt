@@ -2,7 +2,8 @@
 -- Assumes nothing.
 use mathlib.Core.Path.{ap}
 use mir.Facts.{to_z-of_z}
-use Rattle.text.specs.Writing.{joined, named}
+use Rattle.text.specs.Writing.{named}
+use Rattle.text.proofs.Writing.{joined}
 use Rattle.numerals.specs.Digits.{signed_fixed}
 use borrow.Author.Rules.{rules}
 use Rattle.explain_lines.proofs.put_pair.Statement.{statement}

@@ -6,7 +6,8 @@ use mir.Syntax.{w64}
 use mir.Facts.{to_z-of_z}
 use Rattle.explanations.specs.Explanations.{explained_by}
 use Rattle.explanations.specs.declared.Held.{Held}
-use Rattle.text.specs.Writing.{joined, named}
+use Rattle.text.specs.Writing.{named}
+use Rattle.text.proofs.Writing.{joined}
 use Rattle.answers.specs.Answers.{pair_text, explained_outcome}
 use Rattle.answers.specs.Held.{held_text, by_held}
 use borrow.Author.Rules.{rules}

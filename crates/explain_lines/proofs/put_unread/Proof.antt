@@ -1,6 +1,6 @@
 -- Two texts in a row.
 -- Assumes nothing.
-use Rattle.text.specs.Writing.{joined}
+use Rattle.text.proofs.Writing.{joined}
 use borrow.Author.Rules.{rules}
 use Rattle.explain_lines.proofs.put_unread.Statement.{statement}
 use Rattle.explain_lines.proofs.put_unread.Tie as tie

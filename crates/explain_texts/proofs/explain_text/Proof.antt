@@ -3,7 +3,7 @@
 use Prim.Native.Nat.{◌-◌}
 use native.Mathlib.Omega.{arith}
 use lib.ListN.{length}
-use Rattle.text.specs.Writing.{length-kept}
+use Rattle.text.proofs.Writing.{length-kept}
 use Rattle.explain_texts.proofs.Going.{Going, going_starts, going_on, less_left, rest_within, all-written, all-counted}
 use borrow.Author.Rules.{rules}
 use Rattle.explain_texts.proofs.explain_text.Statement.{statement}

@@ -1,6 +1,6 @@
 -- Three texts in a row.
 -- Assumes nothing.
-use Rattle.text.specs.Writing.{joined}
+use Rattle.text.proofs.Writing.{joined}
 use borrow.Author.Rules.{rules}
 use Rattle.explain_totals.proofs.put_counts.Statement.{statement}
 use Rattle.explain_totals.proofs.put_counts.Tie as tie

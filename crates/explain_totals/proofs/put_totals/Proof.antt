@@ -1,6 +1,6 @@
 -- Four texts in a row.
 -- Assumes nothing.
-use Rattle.text.specs.Writing.{joined}
+use Rattle.text.proofs.Writing.{joined}
 use borrow.Author.Rules.{rules}
 use Rattle.explain_totals.proofs.put_totals.Statement.{statement}
 use Rattle.explain_totals.proofs.put_totals.Tie as tie

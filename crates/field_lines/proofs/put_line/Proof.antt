@@ -1,7 +1,8 @@
 -- Three texts in a row; the content is the part of the sheet behind the header (specs/LoopLemmas.antt).
 -- Assumes nothing.
 use mathlib.Core.Path.{refl}
-use Rattle.text.specs.Writing.{joined, named}
+use Rattle.text.specs.Writing.{named}
+use Rattle.text.proofs.Writing.{joined}
 use Rattle.field_lines.specs.LoopLemmas.{part_line}
 use borrow.Author.Rules.{rules}
 use Rattle.field_lines.proofs.put_line.Statement.{statement}

@@ -2,8 +2,8 @@
 -- Assumes nothing.
 use native.Mathlib.Omega.{arith}
 use Rattle.walk.specs.Stands.{left}
-use Rattle.walk.specs.Fold.{field_ends, fewer_left}
-use Rattle.text.specs.Writing.{length-kept}
+use Rattle.walk.proofs.Fold.{field_ends, fewer_left}
+use Rattle.text.proofs.Writing.{length-kept}
 use Rattle.field_lines.specs.LoopLemmas.{Going, going_starts, going_on, at_end, with_refusal}
 use borrow.Author.Rules.{rules}
 use Rattle.field_lines.proofs.put_lines.Statement.{statement}

@@ -1,6 +1,6 @@
 -- Three texts in a row.
 -- Assumes nothing.
-use Rattle.text.specs.Writing.{joined}
+use Rattle.text.proofs.Writing.{joined}
 use borrow.Author.Rules.{rules}
 use Rattle.field_lines.proofs.put_place.Statement.{statement}
 use Rattle.field_lines.proofs.put_place.Tie as tie

@@ -6,7 +6,8 @@ use Prim.Native.Nat.{ℕ}
 use borrow.Author.Rules.{rules}
 use Rattle.text.specs.Ascii.{ascii}
 use Rattle.numerals.specs.Digits.{decimal}
-use Rattle.text.specs.Writing.{joined, named}
+use Rattle.text.specs.Writing.{named}
+use Rattle.text.proofs.Writing.{joined}
 use Rattle.lines.proofs.put_refusal_line.Statement.{statement}
 use Rattle.lines.proofs.put_refusal_line.Tie as tie
 

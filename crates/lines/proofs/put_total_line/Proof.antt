@@ -1,7 +1,7 @@
 -- Three texts in a row.
 -- Assumes nothing.
 use borrow.Author.Rules.{rules}
-use Rattle.text.specs.Writing.{joined}
+use Rattle.text.proofs.Writing.{joined}
 use Rattle.lines.proofs.put_total_line.Statement.{statement}
 use Rattle.lines.proofs.put_total_line.Tie as tie
 

@@ -2,8 +2,8 @@
 -- Assumes nothing.
 use native.Mathlib.Omega.{arith}
 use Rattle.walk.specs.Stands.{left}
-use Rattle.text.specs.Writing.{length-kept}
-use Rattle.walk.specs.Fold.{field_ends, fewer_left, few_below}
+use Rattle.text.proofs.Writing.{length-kept}
+use Rattle.walk.proofs.Fold.{field_ends, fewer_left, few_below}
 use Rattle.listing.specs.LoopLemmas.{Going, going_starts, going_on, with-total, with_refusal}
 use borrow.Author.Rules.{rules}
 use Rattle.listing.proofs.put_listing.Statement.{statement}

@@ -1,2 +1,0 @@
--- Laws that the proofs cite. Assumes nothing.
-pub mod Stores

@@ -1,0 +1,10 @@
+-- After i turns the first i bytes of the content stand in the buffer.
+use Rattle.std.proofs.Common.{◌≡◌, ◌-◌, ◌≤◌, length}
+use Rattle.std.proofs.Math.Seq.{paste}
+use Rattle.field_store.proofs.copy_to.Given as goal
+
+abbrev pub invariant-loop-i : goal.invariant-loop-i
+invariant-loop-i l = (l.i ≤ length l.content) × (length l.out ≡ length l.initial.out) × (l.out ≡ paste l.initial.out l.at l.content l.i)
+
+abbrev pub decreases-loop-i : goal.decreases-loop-i
+decreases-loop-i l = length l.content - l.i

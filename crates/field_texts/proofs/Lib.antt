@@ -1,0 +1,2 @@
+pub mod TheoremsLemmas
+pub mod Theorems

@@ -1,0 +1,10 @@
+-- The walk goes on until the note, the end or the refusal decides (`Search`); each step leaves fewer bytes.
+use Rattle.walk.specs.Stands.{left}
+use Rattle.note_finder.proofs.Search.{Seeking}
+use Rattle.note_finder.proofs.find_note.Given as goal
+
+abbrev pub invariant-loop-refusal : goal.invariant-loop-refusal
+invariant-loop-refusal l = Seeking l.sheet l.place l.at
+
+abbrev pub decreases-loop-refusal : goal.decreases-loop-refusal
+decreases-loop-refusal l = left l.sheet l.at

@@ -1,0 +1,4 @@
+pub mod Bits
+pub mod Run
+pub mod Provenance
+pub mod Sequence

@@ -1,0 +1,3 @@
+pub mod Theorems
+pub mod Lemmas
+pub mod Examples
