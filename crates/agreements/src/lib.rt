@@ -1,4 +1,6 @@
 // Whether a figure agrees with a count or with a word.
+#![tactic(auto)]
+
 ghost use Rattle.std.specs.Prelude.{◌≡◌};
 ghost use Rattle.quantities.specs.Nearest.{nearest_count};
 ghost use Rattle.agreements.specs.Agreement.{is_nearest, holds_nearest, agrees_of};

@@ -1,9 +1,7 @@
 -- How the code finds an answer: by what the word holds. The same text and outcome as by the reason that is told.
 -- Assumes nothing.
 use Rattle.std.specs.Prelude.{◌≡◌, refl, Bool, true, false, List, ◌++◌, ℕ, ℤ}
-use Rattle.std.proofs.Common.{ap}
 use Rattle.refusals.specs.Numbers.{number_of}
-use Rattle.decode.specs.Decode.{decode_of}
 use Rattle.decode.specs.declared.Decoded.{Decoded}
 use Rattle.readings.specs.Readings.{has_reading, reading_of}
 use Rattle.quantities.specs.Nearest.{millionths_of}
@@ -16,7 +14,7 @@ use Rattle.explanations.specs.declared.Held.{Held}
 use Rattle.text.specs.Ascii.{ascii}
 use Rattle.numerals.specs.Digits.{decimal}
 use Rattle.reason_texts.specs.ReasonTexts.{because_text}
-use Rattle.answers.specs.Answers.{explained_text, figure_for, pair_text, pair_answer}
+use Rattle.answers.specs.Answers.{explained_text, figure_for}
 
 abbrev pub held_text : Held → ℤ → List ℕ
 held_text (Held.Count q c) figure = because_text (reason_of (count_agrees q c) figure) (millionths_of q c)
@@ -27,9 +25,6 @@ held_under_lem (Measurement.Count q c) true figure = refl
 held_under_lem (Measurement.Count q c) false figure = refl
 held_under_lem Measurement.Nothing reading figure = refl
 
-held_in_lem : (d : Decoded) (figure : ℤ) → held_text (held_in d) figure ≡ explained_text (explained_by (held_in d) figure) (figure_for (decoded_measurement d))
+pub held_in_lem : (d : Decoded) (figure : ℤ) → held_text (held_in d) figure ≡ explained_text (explained_by (held_in d) figure) (figure_for (decoded_measurement d))
 held_in_lem (Decoded.Accepted r) figure = held_under_lem (measurement_of r.body) (has_reading (reading_of r.body)) figure
 held_in_lem (Decoded.Refused f) figure = refl
-
-pub by_held : (w : ℕ) (figure : ℤ) → pair_text w figure ++ held_text (held_in (decode_of w)) figure ++ ascii "\n" ≡ pair_answer w figure
-by_held w figure = ap (λ (t : List ℕ). pair_text w figure ++ t ++ ascii "\n") (held_in_lem (decode_of w) figure)

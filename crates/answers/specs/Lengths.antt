@@ -1,7 +1,7 @@
 -- How long an answer is at most, so that a buffer can be given that holds the answers to many lines.
 -- Assumes nothing.
-use Rattle.std.specs.Prelude.{◌≡◌, refl, Bool, true, false, cond, List, [], ◌∷◌, ◌++◌, ℕ, suc, ◌+◌, ◌*◌, ◌/◌, ◌^◌, ◌≤◌, ◌<◌, eqb, ℤ, nat_abs, length}
-use Rattle.std.proofs.Common.{subst, inl, mod-lt, arith, lit<, length-append}
+use Rattle.std.specs.Prelude.{◌≡◌, refl, Bool, true, false, cond, ◌++◌, ℕ, ◌+◌, ◌/◌, ◌^◌, ◌≤◌, ◌<◌, eqb, ℤ, nat_abs, length}
+use Rattle.std.proofs.Common.{mod-lt, arith, lit<, length-append}
 use Rattle.std.proofs.Math.Path.{subst⁻¹}
 use Rattle.std.specs.Int.Signed.{nat_abs-le}
 use Rattle.bits.specs.Fields.{bits}
@@ -24,16 +24,12 @@ use Rattle.agreements.specs.Agreeing.{held, accepted-held}
 use Rattle.signed_numbers.specs.Signed.{Fits, greatest}
 use Rattle.reasons.specs.Reasons.{number_of as reasonNumber}
 use Rattle.reasons.specs.declared.Reason.{Reason}
-use Rattle.explanations.specs.Explanations.{explained_of}
 use Rattle.explanations.specs.declared.Explained.{Explained}
 use Rattle.text.specs.Ascii.{ascii}
 use Rattle.numerals.specs.Digits.{signed_fixed}
 use Rattle.numerals.specs.Theorems.{decimal-length, signed-length}
-use Rattle.typed_pairs.specs.Pairs.{line_of}
-use Rattle.typed_pairs.proofs.Theorems.{passed_exactly, pair_within}
-use Rattle.typed_pairs.specs.declared.TypedLine.{TypedLine}
 use Rattle.reason_texts.specs.ReasonTexts.{reason_text, because_text}
-use Rattle.answers.specs.Answers.{explained_text, figure_for, pair_answer, unread_answer, typed_answer, answer_text}
+use Rattle.answers.specs.Answers.{explained_text, figure_for, unread_answer}
 
 -- ---- figures
 
@@ -42,7 +38,7 @@ greatest_within true = omega arith
 greatest_within false = omega arith
 
 -- a figure of 64 bits
-fits-length : (z : ℤ) → Fits z → length (signed_fixed 6 z) ≤ 21
+pub fits-length : (z : ℤ) → Fits z → length (signed_fixed 6 z) ≤ 21
 fits-length z h = omega (arith, signed-length 12 6 z (omega (arith, h, greatest_within (is_negative z))))
 
 -- the count of a word
@@ -64,7 +60,7 @@ figure_size : (m : Measured) (w : ℕ) → nat_abs (figure_for (held m w)) ≤ 2
 figure_size (Measured.As q) w = printed-size q (count_bits q w) (count-size q w)
 figure_size Measured.Nothing w = omega arith
 
-word_figure_size : (w : ℕ) → nat_abs (figure_for (word_measurement document01 w)) ≤ 2 ^ 42 + 1
+pub word_figure_size : (w : ℕ) → nat_abs (figure_for (word_measurement document01 w)) ≤ 2 ^ 42 + 1
 word_figure_size w = go (decode_of w) refl
   where
     go : (d : Decoded) → decode_of w ≡ d → nat_abs (figure_for (decoded_measurement d)) ≤ 2 ^ 42 + 1
@@ -91,29 +87,9 @@ because_length r z h = go (eqb (reasonNumber r) 1)
     go true = omega (arith, reason_length r)
     go false = simp length-append (omega (arith, reason_length r, h))
 
-explained_length : (x : Explained) (z : ℤ) → length (signed_fixed 6 z) ≤ 15 → length (explained_text x z) ≤ 57
+pub explained_length : (x : Explained) (z : ℤ) → length (signed_fixed 6 z) ≤ 15 → length (explained_text x z) ≤ 57
 explained_length (Explained.Because r) z h = because_length r z h
 explained_length (Explained.Refused f) z h = simp length-append (omega (arith, decimal-length 1 (number_of f) (omega (arith, (number-bounds f).1))))
 
-pair_length : (w : ℕ) (z : ℤ) → Fits z → length (pair_answer w z) ≤ 90
-pair_length w z h =
-    let figure = figure_for (word_measurement document01 w) in
-    let said : length (signed_fixed 6 figure) ≤ 15 = omega (arith, signed-length 6 6 figure (omega (arith, word_figure_size w))) in
-    simp length-append (omega (arith, fits-length z h, explained_length (explained_of w z) figure said))
-
-unread_length : (n : ℕ) → n < 2 ^ 64 → length (unread_answer n) ≤ 47
+pub unread_length : (n : ℕ) → n < 2 ^ 64 → length (unread_answer n) ≤ 47
 unread_length n h = simp length-append (omega (arith, decimal-length 19 n (omega arith)))
-
--- An answer has 64 bytes at most for each byte of its line and the line feed behind it.
-pub answer-length : (n : ℕ) (line : List ℕ) → n < 2 ^ 64 → length (answer_text n line) ≤ 64 * suc (length line)
-unfolding answer_text
-answer-length n line h = go (line_of line) refl
-  where
-    some : (l : List ℕ) (w : ℕ) (z : ℤ) → line_of l ≡ TypedLine.Pair w z → 0 < length l
-    some [] w z e = let passed = (passed_exactly []).1 (inl refl) in let k : ◌≡◌ {A = ℕ} 0 1 = cc in absurd (omega arith)
-    some (c ∷ l) w z e = omega arith
-
-    go : (t : TypedLine) → line_of line ≡ t → length (typed_answer n t) ≤ 64 * suc (length line)
-    go TypedLine.Passed e = omega arith
-    go (TypedLine.Pair w z) e = omega (arith, pair_length w z (pair_within line w z e).1, some line w z e)
-    go TypedLine.Unread e = omega (arith, unread_length n h)

@@ -24,7 +24,8 @@ use Rattle.reasons.specs.Reasons.{number_of as reasonNumber}
 use Rattle.reasons.specs.declared.Reason.{Reason}
 use Rattle.explanations.specs.Explanations.{explained_of}
 use Rattle.explanations.specs.declared.Explained.{Explained}
-use Rattle.flat_explanations.specs.Explained.{flat_explained, reason_tells}
+use Rattle.flat_explanations.specs.Explained.{flat_explained}
+use Rattle.flat_explanations.proofs.Explained.{reason_tells}
 use Rattle.flat_explanations.specs.declared.FlatExplained.{FlatExplained}
 use Rattle.chart.specs.Words.{chart_point}
 use Rattle.chart.specs.declared.Charted.{Charted}
@@ -62,7 +63,7 @@ use Rattle.flat_words.specs.Words.{flat_word, encoded, encode_flat}
 use Rattle.flat_words.specs.declared.FlatWord.{FlatWord}
 use Rattle.flat_laws.specs.Back.{Bounded}
 use Rattle.flat_laws.specs.Refusals.{accepted-number}
-use Rattle.flat_laws.specs.Words.{encode-alike}
+use Rattle.flat_laws.proofs.Words.{encode-alike}
 use Rattle.flat_points.specs.Points.{flat_point}
 use Rattle.flat_readings.specs.Readings.{nought, flat_reading, absent, flat_shown, flat_read, reading_in}
 use Rattle.flat_points.specs.declared.FlatPoint.{FlatPoint}
@@ -75,7 +76,8 @@ use Rattle.flat_reassembly.specs.declared.FlatStep.{FlatStep}
 use Rattle.flat_reassembly.specs.declared.Partial.{Partial}
 use Rattle.flat_places.specs.Places.{flat_checked, flat_written}
 use Rattle.flat_places.specs.declared.FlatPlace.{FlatPlace}
-use Rattle.flat_walks.specs.Laws.{flat_after, fields_alike}
+use Rattle.flat_walks.specs.Laws.{flat_after}
+use Rattle.flat_walks.proofs.Laws.{fields_alike}
 use Rattle.flat_walks.specs.Walks.{flat_walk, flat_field, stepped}
 use Rattle.flat_walks.specs.declared.FlatField.{FlatField}
 use Rattle.flat_walks.specs.declared.FlatWalk.{FlatWalk}

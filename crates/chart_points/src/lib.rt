@@ -1,4 +1,6 @@
 // The chart point of two records or words: the course and glide deviations together.
+#![tactic(auto)]
+
 ghost use Rattle.std.specs.Prelude.{◌≡◌, eqb};
 ghost use Rattle.chart.specs.Chart.{is_kind, difference_in, difference_of, joined, are_course_and_glide, chart_of};
 ghost use Rattle.chart.specs.Points.{DifferenceOf, PointOf};

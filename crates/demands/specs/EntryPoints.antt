@@ -30,7 +30,7 @@ use Rattle.figures.specs.Coding.{coded_under, coded_of}
 use Rattle.explanations.specs.Explanations.{explained_of}
 use Rattle.explanations.specs.Statements.{explaining}
 use Rattle.explanations.specs.Statements as explanation
-use Rattle.explanations.specs.Theorems.{follows}
+use Rattle.explanations.proofs.Theorems.{follows}
 use Rattle.part_words.specs.Parts.{part_in}
 use Rattle.reassembly.specs.Step.{take_word}
 use Rattle.reassembly.specs.declared.Reassembler.{Reassembler}

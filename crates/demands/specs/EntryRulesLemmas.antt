@@ -32,7 +32,8 @@ use Rattle.reassembly_parts.specs.Take.{take_of}
 use Rattle.reassembly_parts.specs.declared.Answer.{Answer}
 use Rattle.reassembly_parts.specs.declared.Part.{Part}
 use Rattle.reassembly_parts.specs.declared.Step.{Step}
-use Rattle.part_words.specs.Carries.{Carries, PartKind, part1, part2, part3, part4, agrees-tested, other_label, carries}
+use Rattle.part_words.specs.Carries.{Carries, PartKind, agrees-tested}
+use Rattle.part_words.proofs.Carries.{part1, part2, part3, part4, other_label, carries}
 use Rattle.part_words.specs.Carries as reassembly-carries
 use Rattle.part_words.specs.Parts.{part_in, parity_broken}
 use Rattle.reassembly.specs.Step.{answer_of, step_of, take_word}

@@ -16,7 +16,8 @@ use Rattle.columns.specs.Columns.{columns_of}
 use Rattle.columns.specs.Theorems.{dash_exactly}
 use Rattle.columns.specs.declared.Figure.{Figure}
 use Rattle.columns.specs.declared.Mark.{Mark}
-use Rattle.verdicts.specs.Theorems.{Comparable, comparable_exactly}
+use Rattle.verdicts.specs.Theorems.{Comparable}
+use Rattle.verdicts.proofs.Theorems.{comparable_exactly}
 use Rattle.verdicts.specs.Verdicts.{is_comparable, verdict_of}
 use Rattle.verdicts.specs.declared.Previous.{Previous}
 use Rattle.verdicts.specs.declared.Verdict.{Verdict}

@@ -1,4 +1,6 @@
 // The answer to a typed line of a word and a figure, into a buffer: what fits is stored and all is counted, as in the crate `text`.
+#![tactic(auto)]
+
 ghost use Rattle.std.specs.Prelude.{cond, ◌≡◌, eqb};
 ghost use Rattle.reasons.specs.Reasons.{number_of};
 ghost use Rattle.text.specs.Writing.{Writes};

@@ -1,4 +1,6 @@
 // Why a figure and a word agree or do not.
+#![tactic(auto)]
+
 ghost use Rattle.std.specs.Prelude.{◌≡◌};
 ghost use Rattle.decode.specs.Decode.{decode_of};
 ghost use Rattle.explanations.specs.Explanations.{held_under, held_in, explained_of};

@@ -1,18 +1,14 @@
 -- A figure for which two reasons hold: the order alone decides which is told.
 -- Assumes nothing.
-use Rattle.std.specs.Prelude.{◌≡◌, refl, pos, negsuc}
+use Rattle.std.specs.Prelude.{refl, pos, negsuc}
 use Rattle.std.proofs.Common.{inl, lit≤}
 use Rattle.std.specs.Int.Count.{ones_in}
 use Rattle.rounding.specs.Rounding.{round_even}
 use Rattle.quantities.specs.Nearest.{wrap, circle_nearest, nearest_count}
 use Rattle.labels.specs.Table.{row_of}
-use Rattle.signed_numbers.specs.Signed.{signed_of}
 use Rattle.agreements.specs.Agreement.{agrees_of}
 use Rattle.reasons.specs.Reasons.{Holds}
-use Rattle.reasons.specs.Scaled.{reason_of}
 use Rattle.reasons.specs.declared.Reason.{Reason}
-use Rattle.explanations.specs.declared.Explained.{Explained}
-use Rattle.explanations.specs.Explanations.{explained_of}
 
 -- a VOR azimuth of -0.351562 degrees (label 222, ready), beside which 0.359640 was typed: a thousand times it is that azimuth but for a turn, and so is the figure with the other sign
 times_hold : Holds (agrees_of 0x7FF80049) (pos 359640) Reason.ThousandTimes
@@ -22,8 +18,3 @@ times_hold = inl (pos 359640000, refl, lit≤ tt, refl)
 sign-holds : Holds (agrees_of 0x7FF80049) (pos 359640) Reason.OtherSign
 unfolding ones_in row_of nearest_count circle_nearest wrap round_even
 sign-holds = inl (negsuc 359639, refl, lit≤ tt, refl)
-
--- the earlier one is told
-times_told : explained_of 0x7FF80049 (pos 359640) ≡ Explained.Because Reason.ThousandTimes
-unfolding ones_in row_of nearest_count circle_nearest wrap round_even reason_of signed_of
-times_told = refl

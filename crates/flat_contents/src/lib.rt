@@ -1,4 +1,6 @@
 // What stands in the fields of a sheet, as numbers: the word, the figure, and where the text of a note is.
+#![tactic(auto)]
+
 ghost use Rattle.std.specs.Prelude.{◌≡◌};
 ghost use Rattle.fields.specs.Run.{sheet_of};
 ghost use Rattle.notes.specs.Note.{note_of};

@@ -1,4 +1,6 @@
 // The numbers of a word's record.
+#![tactic(auto)]
+
 ghost use Rattle.std.specs.Prelude.{◌≡◌};
 ghost use Rattle.decode.specs.Decode.{decode_of};
 ghost use Rattle.flat_records.specs.Numbers.{flat_of};

@@ -1,4 +1,6 @@
 // Why a figure and a word agree or do not, as numbers for other languages.
+#![tactic(auto)]
+
 ghost use Rattle.std.specs.Prelude.{◌≡◌};
 ghost use Rattle.explanations.specs.Explanations.{explained_of};
 ghost use Rattle.flat_explanations.specs.Explained.{flat_explained};

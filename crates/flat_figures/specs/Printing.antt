@@ -1,6 +1,6 @@
 -- The figure in millionths that a count under a label is printed as, or its refusal's number.
 -- Assumes nothing.
-use Rattle.std.specs.Prelude.{◌≡◌, Bool, true, false, cond, ℕ, suc, ◌<◌, ltb, ℤ, pos, negsuc, ◌≤ℤ◌}
+use Rattle.std.specs.Prelude.{◌≡◌, Bool, true, false, cond, ℕ, suc, ltb, ℤ, pos, negsuc, ◌≤ℤ◌}
 use Rattle.std.proofs.Common.{arith, ltb-true, le→leb}
 use Rattle.std.specs.Int.Signed.{mag, le_z_yes}
 use Rattle.refusals.specs.Numbers.{number_of}
@@ -8,8 +8,6 @@ use Rattle.refusals.specs.declared.Refusal.{Refusal}
 use Rattle.labels.proofs.Assignment.{document01}
 use Rattle.encode.specs.Encode.{narrow, wide}
 use Rattle.quantities.specs.Nearest.{millionths_of}
-use Rattle.quantities.specs.Scale.{scale_of}
-use Rattle.quantities.specs.Statements.{LegalCount}
 use Rattle.quantities.specs.declared.Quantity.{Quantity}
 use Rattle.figures.specs.Coding.{quantity_at}
 use Rattle.figures.specs.declared.Measured.{Measured}
@@ -49,21 +47,6 @@ held q c h = rw h
 
 -- ---- the counts that are printed are demand 3's legal ones
 
-within : (n : ℕ) (c : ℤ) → ltb (mag c) (suc n) ≡ true → (negsuc n ≤ℤ c) × (c ≤ℤ pos n)
+pub within : (n : ℕ) (c : ℤ) → ltb (mag c) (suc n) ≡ true → (negsuc n ≤ℤ c) × (c ≤ℤ pos n)
 within n (pos k) e = (le_z_yes tt, le_z_yes (le→leb k n (omega (arith, ltb-true k (suc n) e))))
 within n (negsuc k) e = (le_z_yes (le→leb k n (omega (arith, ltb-true k (suc n) e))), le_z_yes tt)
-
-pub held_legal : (q : Quantity) (c : ℤ) → holds q c ≡ true → LegalCount (scale_of q) c
-held_legal Quantity.Azimuth c e = within 4095 c e
-held_legal Quantity.Course c e = within 4095 c e
-held_legal Quantity.Glide c e = within 4095 c e
-held_legal Quantity.MlsAzimuth c e = within 32767 c e
-held_legal Quantity.MlsGlide c e = within 32767 c e
-
--- and 16 bits hold them all
-pub held_short : (q : Quantity) (c : ℤ) → holds q c ≡ true → mag c < 32768
-held_short Quantity.Azimuth c e = omega (arith, ltb-true (mag c) 4096 e)
-held_short Quantity.Course c e = omega (arith, ltb-true (mag c) 4096 e)
-held_short Quantity.Glide c e = omega (arith, ltb-true (mag c) 4096 e)
-held_short Quantity.MlsAzimuth c e = ltb-true (mag c) 32768 e
-held_short Quantity.MlsGlide c e = ltb-true (mag c) 32768 e

@@ -1,4 +1,6 @@
 // Figures coded and counts printed, as numbers for other languages.
+#![tactic(auto)]
+
 ghost use Rattle.std.specs.Prelude.{◌≡◌};
 ghost use Rattle.encode.specs.Encode.{narrow, wide};
 ghost use Rattle.figures.specs.Coding.{coded_of};

@@ -1,19 +1,18 @@
 -- The record that numbers stand for has those numbers in the fields of its kind, and zero in every other.
 -- Assumes nothing.
 use Rattle.std.specs.Prelude.{◌≡◌, refl, Bool, true, false, cond, ◌&&◌, ℕ, ◌%◌, eqb, leb}
-use Rattle.std.proofs.Common.{sym, ap, ◌∙◌, mod-eq_of_lt, arith, leb-true}
+use Rattle.std.proofs.Common.{mod-eq_of_lt, arith, leb-true}
 use Rattle.bits.specs.Laws.{both_true}
-use Rattle.codes.specs.Codes.{marker_listed, flag_bit, marker_code_lem}
-use Rattle.records.specs.All.{place_of}
+use Rattle.codes.specs.Codes.{flag_bit}
 use Rattle.records.specs.declared.Kind.{Kind}
 use Rattle.records.specs.declared.Record.{Record}
 use Rattle.refusals.specs.declared.Refusal.{Refusal}
 use Rattle.labels.specs.declared.Lookup.{Lookup}
 use Rattle.decode.specs.declared.Decoded.{Decoded}
-use Rattle.flat_records.specs.Numbers.{status_number, with_count, with_value, part, flat_body, flat_of}
+use Rattle.flat_records.specs.Numbers.{status_number, with_count, with_value, part}
 use Rattle.flat_records.specs.declared.FlatRecord.{FlatRecord}
-use Rattle.flat_fields.specs.Fields.{status_of, status_listed, kind_at, listed, is_flag, is_octet, is_short, fits, body_from, record_as, record_of_kind, record_found, record_from}
-use Rattle.flat_laws.specs.Codes.{place_of_lem, status_number_lem, category_number, flag-number}
+use Rattle.flat_fields.specs.Fields.{status_of, status_listed, kind_at, listed, is_flag, is_octet, is_short, fits, record_as, record_of_kind}
+use Rattle.flat_laws.specs.Codes.{status_number_lem, flag-number}
 
 -- the numbers in the fields that a kind has
 abbrev pub only : Kind → FlatRecord → FlatRecord
@@ -41,15 +40,15 @@ only_found Lookup.Unknown f = f
 abbrev pub kept : FlatRecord → FlatRecord
 kept f = only_found (kind_at f.kind) f
 
-short : (n : ℕ) → is_short n ≡ true → n % 65536 ≡ n
+pub short : (n : ℕ) → is_short n ≡ true → n % 65536 ≡ n
 short n e = mod-eq_of_lt (omega (arith, leb-true n 65535 e))
 
-octet : (n : ℕ) → is_octet n ≡ true → n % 256 ≡ n
+pub octet : (n : ℕ) → is_octet n ≡ true → n % 256 ≡ n
 octet n e = mod-eq_of_lt (omega (arith, leb-true n 255 e))
 
 module _ (f : FlatRecord) where
   -- two flags beside a count, and a flag beside a value of 16 bits
-  deviation : {n : ℕ} → n ≡ f.kind → status_listed f.status ≡ true → (is_flag f.inhibit && is_flag f.clearance) ≡ true
+  pub deviation : {n : ℕ} → n ≡ f.kind → status_listed f.status ≡ true → (is_flag f.inhibit && is_flag f.clearance) ≡ true
       → with_count n f.source (status_number (status_of f.status)) 0 (flag_bit (eqb f.inhibit 1)) (flag_bit (eqb f.clearance 1)) f.count
       ≡ with_count f.kind f.source f.status 0 f.inhibit f.clearance f.count
   deviation p c v =
@@ -58,39 +57,12 @@ module _ (f : FlatRecord) where
       with_count (p i) f.source (status_number_lem f.status c i) 0 (flag-number f.inhibit a.0 i) (flag-number f.clearance a.1 i)
       f.count
 
-  setting : {n : ℕ} → n ≡ f.kind → status_listed f.status ≡ true → (is_flag f.manual && is_short f.value) ≡ true
+  pub setting : {n : ℕ} → n ≡ f.kind → status_listed f.status ≡ true → (is_flag f.manual && is_short f.value) ≡ true
       → with_value n f.source (status_number (status_of f.status)) 0 (flag_bit (eqb f.manual 1)) (f.value % 65536)
       ≡ with_value f.kind f.source f.status 0 f.manual f.value
   setting p c v =
       let a = both_true (is_flag f.manual) (is_short f.value) v in
       λ i. with_value (p i) f.source (status_number_lem f.status c i) 0 (flag-number f.manual a.0 i) (short f.value a.1 i)
-
-  -- the numbers of what a kind reads are those that it read
-  body_forth : (k : Kind) → place_of k ≡ f.kind → listed k f ≡ true → fits k f ≡ true → flat_body f.source (body_from k f) ≡ only k f
-  body_forth Kind.VorAzimuth p c v =
-      let a = both_true (status_listed f.status) (marker_listed f.marker) c in
-      λ i. with_count (p i) f.source (status_number_lem f.status a.0 i) (marker_code_lem f.marker a.1 i) 0 0 f.count
-  body_forth Kind.VorFrequency p c v = λ i. with_value (p i) f.source (status_number_lem f.status c i) 0 0 f.value
-  body_forth Kind.IlsCourse p c v =
-      λ i. with_count (p i) f.source (status_number_lem f.status c i) 0 (flag-number f.inhibit v i) 0 f.count
-  body_forth Kind.IlsGlide p c v =
-      λ i. with_count (p i) f.source (status_number_lem f.status c i) 0 (flag-number f.inhibit v i) 0 f.count
-  body_forth Kind.IlsFrequency p c v =
-      let a = both_true (status_listed f.status) (leb f.category 3) c in
-      λ i. with_value (p i) f.source (status_number_lem f.status a.0 i) (category_number f.category a.1 i) 0 f.value
-  body_forth Kind.MlsFrequency p c v = λ i. with_value (p i) f.source (status_number_lem f.status c i) 0 0 f.value
-  body_forth Kind.MlsAzimuthDeviation p c v = deviation p c v
-  body_forth Kind.MlsGlideDeviation p c v = deviation p c v
-  body_forth Kind.SelectedAzimuth p c v = setting p c v
-  body_forth Kind.GreatestGlideAngle p c v =
-      λ i. with_value (p i) f.source (status_number_lem f.status c i) 0 0 (short f.value v i)
-  body_forth Kind.SelectedGlideAngle p c v = setting p c v
-  body_forth Kind.Part1 p c v = λ i. part (p i) f.source 0 f.word_number (octet f.value v i)
-  body_forth Kind.Part2 p c v = λ i. part (p i) f.source 0 0 (short f.value v i)
-  body_forth Kind.Part3 p c v = λ i. part (p i) f.source 0 0 (short f.value v i)
-  body_forth Kind.Part4 p c v =
-      let a = both_true (is_flag f.parity_good) (is_short f.value) v in
-      λ i. part (p i) f.source (flag-number f.parity_good a.0 i) 0 (short f.value a.1 i)
 
 -- a test that is passed
 cond_accepted : (b : Bool) (d : Decoded) (e : Refusal) (r : Record) → cond b d (Decoded.Refused e) ≡ Decoded.Accepted r → (b ≡ true) × (d ≡ Decoded.Accepted r)
@@ -111,14 +83,3 @@ passed k f r e =
     let b = both_true (leb f.source 3) (listed k f) c.0 in
     let same : record_as k f ≡ r = cc in
     record { source = b.0; codes = b.1; others = v.0; reads = same }
-
-found_forth : (f : FlatRecord) (r : Record) (l : Lookup) → kind_at f.kind ≡ l → record_found l f ≡ Decoded.Accepted r
-    → flat_of (Decoded.Accepted r) ≡ only_found l f
-found_forth f r (Lookup.Known k) q e =
-    let p = passed k f r e in
-    sym (ap (λ (x : Record). flat_of (Decoded.Accepted x)) p.reads) ∙ body_forth f k (place_of_lem f.kind k q) p.codes p.others
-found_forth f r Lookup.Unknown q e = let z : ◌≡◌ {A = ℕ} 0 1 = cc in absurd (omega arith)
-
--- numbers that stand for a record are the record's numbers, in the fields that are looked at
-pub record_forth : (f : FlatRecord) (r : Record) → record_from f ≡ Decoded.Accepted r → flat_of (Decoded.Accepted r) ≡ kept f
-record_forth f r e = found_forth f r (kind_at f.kind) refl e

@@ -1,16 +1,11 @@
 -- The number 0 in the field of the refusal tells a record from a refusal, and the numbers of an accepted word are no other word's.
 -- Assumes nothing.
-use Rattle.std.specs.Prelude.{◌≡◌, refl, ℕ, ◌^◌, ◌<◌}
-use Rattle.std.proofs.Common.{sym, ap, ◌∙◌}
+use Rattle.std.specs.Prelude.{◌≡◌, refl}
 use Rattle.records.specs.declared.Record.{Record}
-use Rattle.decode.specs.Decode.{decode_of}
 use Rattle.decode.specs.declared.Decoded.{Decoded}
 use Rattle.flat_records.specs.Numbers.{flat_of}
-use Rattle.flat_records.specs.declared.FlatRecord.{FlatRecord}
-use Rattle.flat_words.specs.Words.{encode_flat}
-use Rattle.flat_words.specs.declared.FlatWord.{FlatWord}
 use Rattle.flat_laws.specs.Back.{heads}
-use Rattle.flat_laws.specs.Words.{no_number, word_back}
+use Rattle.flat_laws.specs.Words.{no_number}
 
 -- an accepted word has the number 0
 pub accepted-number : (r : Record) → (flat_of (Decoded.Accepted r)).refusal ≡ 0
@@ -20,10 +15,3 @@ accepted-number r = (heads r.source r.body).0
 pub number-accepted : (d : Decoded) → (flat_of d).refusal ≡ 0 → (r : Record) × (d ≡ Decoded.Accepted r)
 number-accepted (Decoded.Accepted r) e = (r, refl)
 number-accepted (Decoded.Refused f) e = absurd (no_number f e)
-
--- two words of the same numbers, the first of them accepted, are one
-pub numbers_once : (w v : ℕ) (r : Record) → w < 2 ^ 32 → v < 2 ^ 32 → decode_of w ≡ Decoded.Accepted r → flat_of (decode_of w) ≡ flat_of (decode_of v) → w ≡ v
-numbers_once w v r h i e same =
-    let zero-at = ap (λ (f : FlatRecord). f.refusal) (sym same ∙ ap flat_of e) ∙ accepted-number r in
-    let other = number-accepted (decode_of v) zero-at in
-    ap (λ (y : FlatWord). y.word) (sym (word_back w r h e) ∙ ap encode_flat same ∙ word_back v other.0 i other.1)

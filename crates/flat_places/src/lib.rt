@@ -1,4 +1,6 @@
 // The check of a sheet and the writing of a field, with their answers as numbers.
+#![tactic(auto)]
+
 ghost use Rattle.std.specs.Prelude.{◌≡◌};
 ghost use Rattle.fields.specs.declared.FieldKind.{FieldKind};
 ghost use Rattle.fields.specs.Run.{sheet_of};

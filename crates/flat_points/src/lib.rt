@@ -1,4 +1,6 @@
 // The chart point as numbers, for other languages.
+#![tactic(auto)]
+
 ghost use Rattle.std.specs.Prelude.{◌≡◌};
 ghost use Rattle.chart.specs.Words.{chart_point};
 ghost use Rattle.flat_points.specs.Points.{flat_point};

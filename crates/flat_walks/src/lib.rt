@@ -1,4 +1,6 @@
 // A walk over a sheet with its state and its fields as numbers.
+#![tactic(auto)]
+
 ghost use Rattle.std.specs.Prelude.{◌≡◌};
 ghost use Rattle.refusals.specs.Numbers.{numbered};
 ghost use Rattle.walk.specs.Step.{start_walk};

@@ -1,4 +1,6 @@
 // The word of a record's numbers.
+#![tactic(auto)]
+
 ghost use Rattle.std.specs.Prelude.{◌≡◌};
 ghost use Rattle.flat_words.specs.Words.{flat_word, encode_flat};
 

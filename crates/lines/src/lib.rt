@@ -1,4 +1,6 @@
 // The lines of the listing beside those of words, into a buffer: a figure's, the total and the line of a refused sheet.
+#![tactic(auto)]
+
 ghost use Rattle.text.specs.Writing.{Writes};
 ghost use Rattle.verdicts.specs.Verdicts.{verdict_of};
 ghost use Rattle.lines.specs.Lines.{verdict_line, total_line, refusal_line};

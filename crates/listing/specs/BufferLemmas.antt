@@ -1,20 +1,12 @@
 -- A text written from a buffer's start, where it fits, stands first in the buffer, and the rest is as it was; and a text that is only counted.
 -- Assumes nothing.
 use Rattle.std.specs.Prelude.{◌≡◌, true, false, List, ◌++◌, ℕ, ◌≤◌, ltb, length, drop}
-use Rattle.std.proofs.Common.{sym, ap, ◌∙◌, zero-add, arith, le-ltb, ltb-false}
+use Rattle.std.proofs.Common.{ap, ◌∙◌, zero-add, arith, ltb-false}
 use Rattle.std.proofs.lemmas.List.Edits.{sets-eq}
 use Rattle.refusals.specs.declared.Refusal.{Refusal}
 use Rattle.text.specs.Writing.{last, Writes, exact}
 use Rattle.listing.specs.declared.Listed.{Listed}
-use Rattle.listing.specs.Listing.{text_of, listed_of, buffer_of}
-use Rattle.listing.specs.Size.{longest, text_short}
-
--- no listing is longer than this
-pub text_counted : (s : List ℕ) → length (text_of s) ≤ last
-text_counted s = omega (arith, text_short s)
-
-pub never_longer : (s : List ℕ) (room : ℕ) → longest ≤ room → false ≡ ltb room (length (text_of s))
-never_longer s room h = sym (le-ltb room (length (text_of s)) (omega (arith, text_short s)))
+use Rattle.listing.specs.Listing.{listed_of, buffer_of}
 
 -- Any text that a buffer could hold.
 module _ (t out out' : List ℕ) (n : ℕ) (short : length t ≤ last) (w : Writes out 0 t out' n) where

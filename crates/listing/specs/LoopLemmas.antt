@@ -1,9 +1,8 @@
 -- A listing on its way: the text written so far and that of the fields ahead make up the sheet's (walk/specs/Fold.antt).
 -- Assumes nothing.
-use Rattle.std.specs.Prelude.{◌≡◌, refl, List, [], ◌++◌, ℕ, ◌+◌, ◌≤◌, length}
-use Rattle.std.proofs.Common.{sym, ap, ap₂, ◌∙◌, append_assoc, zero-add, arith}
-use Rattle.refusals.specs.declared.Refusal.{Refusal}
-use Rattle.fields.specs.Run.{Field, Scan, Fields, Refused, sheet_of}
+use Rattle.std.specs.Prelude.{◌≡◌, List, [], ◌++◌, ℕ, ◌+◌, ◌≤◌, length}
+use Rattle.std.proofs.Common.{sym, ap, ap₂, ◌∙◌, append_assoc, arith}
+use Rattle.fields.specs.Run.{Field, Scan, Fields, Refused}
 use Rattle.walk.specs.declared.Walk.{Walk}
 use Rattle.walk.specs.declared.FieldAt.{FieldAt}
 use Rattle.walk.specs.declared.Given.{Given}
@@ -13,15 +12,15 @@ use Rattle.walk.specs.Step.{step_of}
 use Rattle.walk.specs.Rest.{field_of}
 use Rattle.walk.specs.Fold.{Loop, Few, few_starts}
 use Rattle.walk.proofs.Fold.{loop_starts}
-use Rattle.walk.proofs.Fold.{loop_goes, loop_ends, loop_refused, few_goes}
-use Rattle.text.specs.Writing.{last, Writes, named, empty}
+use Rattle.walk.proofs.Fold.{loop_goes, few_goes}
+use Rattle.text.specs.Writing.{last, Writes, empty}
 use Rattle.text.proofs.Writing.{joined}
 use Rattle.totals.specs.Totals.{words_in, refused_words_in}
-use Rattle.totals.specs.CountingLemmas.{adds_word, adds_refused}
+use Rattle.totals.proofs.CountingLemmas.{adds_word, adds_refused}
 use Rattle.lines.specs.Lines.{total_line, refusal_line}
 use Rattle.listing.specs.declared.Before.{Before}
 use Rattle.listing.specs.declared.Progress.{Progress}
-use Rattle.listing.specs.Listing.{line_of, lines_of, listing_of, text_of}
+use Rattle.listing.specs.Listing.{line_of, lines_of}
 use Rattle.listing.specs.Turn.{ListsField}
 
 -- the text so far, with what stands just before the next field and the totals so far
@@ -39,10 +38,6 @@ listed t (Refused f p) = t.done ++ refusal_line f p
 -- nothing written
 abbrev pub no_text : Text
 no_text = record { done = []; before = Before.Nothing; words = 0; refused = 0 }
-
-listed-all : (r : Scan) → listed no_text r ≡ listing_of r
-listed-all (Fields fs) = ap₂ (λ (w n : ℕ). lines_of Before.Nothing fs ++ total_line w n) (zero-add (words_in fs)) (zero-add (refused_words_in fs))
-listed-all (Refused f p) = refl
 
 regroup : (a b c d : List ℕ) → a ++ ((b ++ c) ++ d) ≡ (a ++ b) ++ (c ++ d)
 regroup a b c d = simp append_assoc
@@ -94,13 +89,3 @@ module _ (s out₀ out : List ℕ) (w : Walk) (p : Progress) (r : WalkStep) (g :
         few = few_goes s w found told p.words g.few (adds_word f.kind p.words q.words h.words_is);
         fewer = few_goes s w found told p.refused g.fewer (adds_refused f.kind f.content p.refused q.refused h.refused_is);
       }
-
-  -- Where no field is ahead, the total or the refusal completes the text.
-  pub with-total : r.given ≡ Given.End → (out' : List ℕ) (n : ℕ) → Writes out p.at (total_line p.words p.refused) out' n → Writes out₀ 0 (text_of s) out' n
-  with-total told out' n h =
-      named (joined g.written h)
-      (ap₂ (λ (x y : ℕ). g.done ++ total_line x y) (omega arith) (omega arith) ∙ loop_ends g.loop found told ∙ listed-all (sheet_of s))
-
-  pub with_refusal : (f : Refusal) (place : ℕ) → r.given ≡ Given.Refused f place → (out' : List ℕ) (n : ℕ)
-      → Writes out p.at (refusal_line f place) out' n → Writes out₀ 0 (text_of s) out' n
-  with_refusal f place told out' n h = named (joined g.written h) (loop_refused g.loop found told ∙ listed-all (sheet_of s))

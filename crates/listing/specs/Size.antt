@@ -15,12 +15,11 @@ use Rattle.contents.specs.BigEndian.{value_of}
 use Rattle.contents.specs.Contents.{word_in, figure_in}
 use Rattle.verdicts.specs.declared.Previous.{Previous}
 use Rattle.verdicts.specs.Verdicts.{verdict_of}
-use Rattle.lines.specs.Lines.{total_line}
 use Rattle.word_lines.specs.Lengths.{word_line_length}
-use Rattle.lines.specs.Lengths.{verdict_line_length, total_line_length, refusal_line_length}
-use Rattle.totals.specs.Totals.{is_word, words_in, refused_words_in, refused_few}
+use Rattle.lines.specs.Lengths.{verdict_line_length}
+use Rattle.totals.specs.Totals.{is_word, words_in}
 use Rattle.listing.specs.declared.Before.{Before}
-use Rattle.listing.specs.Listing.{previous, after, line_of_word, line_of_figure, line_of, lines_of, listing_of, text_of}
+use Rattle.listing.specs.Listing.{previous, after, line_of_word, line_of_figure, line_of, lines_of}
 
 -- ---- the bytes of a sheet that are a field's own: all of it, or a group's header
 
@@ -120,7 +119,7 @@ line_short b FieldKind.Figure d c = figure_short (previous b d) c
 line_short b FieldKind.Note d c = zero-le
 line_short b FieldKind.Group d c = zero-le
 
-lines_short : (b : Before) (fs : List Field) → 7 * length (lines_of b fs) ≤ 25 * owned fs
+pub lines_short : (b : Before) (fs : List Field) → 7 * length (lines_of b fs) ≤ 25 * owned fs
 lines_short b [] = zero-le
 lines_short b (f ∷ fs) =
     let line : List ℕ = line_of b f.kind f.depth f.content in
@@ -136,7 +135,7 @@ word-own FieldKind.Figure c = zero-le
 word-own FieldKind.Note c = zero-le
 word-own FieldKind.Group c = zero-le
 
-words_few : (fs : List Field) → words_in fs ≤ owned fs
+pub words_few : (fs : List Field) → words_in fs ≤ owned fs
 words_few [] = zero-le
 words_few (f ∷ fs) = omega (arith, word-own f.kind f.content, words_few fs)
 
@@ -145,18 +144,3 @@ words_few (f ∷ fs) = omega (arith, word-own f.kind f.content, words_few fs)
 -- The listing of every sheet has at most 117,085 bytes.
 abbrev pub longest : ℕ
 longest = 117085
-
-pub text_short : (s : List ℕ) → length (text_of s) ≤ longest
-text_short s = by (sheet_of s) refl
-  where
-    by : (r : Scan) → sheet_of s ≡ r → length (listing_of r) ≤ longest
-    by (Refused f p) e =
-        omega (arith, refusal_line_length f p (refusal_short s f p e))
-    by (Fields fs) e =
-        let mine : owned fs ≤ 32768 = fields_owned s fs e in
-        let words : words_in fs ≤ owned fs = words_few fs in
-        let refused : refused_words_in fs ≤ words_in fs = refused_few fs in
-        let last : length (total_line (words_in fs) (refused_words_in fs)) ≤ 56 = total_line_length (words_in fs) (refused_words_in fs) (omega arith) (omega arith) in
-        let sum : length (lines_of Before.Nothing fs ++ total_line (words_in fs) (refused_words_in fs)) ≡ length (lines_of Before.Nothing fs) + length (total_line (words_in fs) (refused_words_in fs)) =
-        length-append (lines_of Before.Nothing fs) (total_line (words_in fs) (refused_words_in fs)) in
-        omega (arith, lines_short Before.Nothing fs)

@@ -1,4 +1,6 @@
 // The listing of a sheet, as text in a buffer.
+#![tactic(auto)]
+
 ghost use Rattle.std.specs.Prelude.{◌≡◌, ◌+◌, ◌≤◌, ltb, length};
 ghost use Rattle.text.specs.Writing.{Writes};
 ghost use Rattle.listing.specs.Listing.{previous, text_of, listed_of, buffer_of};

@@ -1,13 +1,11 @@
 -- Each of the 64 bits of a group is one bit of one of its four words.
 -- Assumes nothing.
-use Rattle.std.specs.Prelude.{ℕ, ◌+◌, ◌*◌, ◌-◌, ◌^◌, ◌/◌, ◌%◌, ◌<◌, ◌≡◌, [], ◌∷◌, eqb, get_or}
-use Rattle.std.proofs.Common.{ap, ap₂, ◌∙◌, mod-lt, arith, lit<, pow_pos, shr-shr}
-use Rattle.std.proofs.Math.ListN.{get_or-map}
+use Rattle.std.specs.Prelude.{ℕ, ◌+◌, ◌*◌, ◌-◌, ◌^◌, ◌/◌, ◌%◌, ◌<◌, ◌≡◌, eqb}
+use Rattle.std.proofs.Common.{ap, ap₂, ◌∙◌, mod-lt, arith, pow_pos, shr-shr}
 use Rattle.std.proofs.Math.Pow.{field, mod-mod-pow}
 use Rattle.std.proofs.lemmas.Nat.{mod-pow-add}
 use Rattle.bits.specs.Fields.{bits}
 use Rattle.reassembly_parts.specs.declared.Group.{Group}
-use Rattle.reassembly_parts.proofs.Bits.{group_bit}
 use Rattle.reassembly_parts.specs.Run.{group_of}
 
 -- the group that four words give: bits 14 to 29 of each, those of the first lowest, and whether the parity was good, bit 11 of the fourth
@@ -15,7 +13,7 @@ abbrev pub group_from : (w₁ w₂ w₃ w₄ : ℕ) → Group
 group_from w₁ w₂ w₃ w₄ = group_of (bits 14 29 w₁) (bits 14 29 w₂) (bits 14 29 w₃) (bits 14 29 w₄) (eqb (bits 11 11 w₄) 1)
 
 -- bit j of bits 14 to 29 is bit 14 + j of the word
-content-bit : (w j : ℕ) → j < 16 → bits 14 29 w / 2 ^ j % 2 ≡ bits (14 + j) (14 + j) w
+pub content-bit : (w j : ℕ) → j < 16 → bits 14 29 w / 2 ^ j % 2 ≡ bits (14 + j) (14 + j) w
 content-bit w j h =
     let width : 16 ≡ 15 - j + 1 + j = omega arith in
     let place : 13 + j ≡ 14 + j - 1 = omega arith in
@@ -26,16 +24,8 @@ content-bit w j h =
     ∙ ap (λ (n : ℕ). n % 2 ^ 1) (shr-shr w 13 j)
     ∙ ap₂ (λ (n m : ℕ). w / 2 ^ n % 2 ^ m) place one
 
-content-lt : (w : ℕ) → bits 14 29 w < 2 ^ 16
+pub content-lt : (w : ℕ) → bits 14 29 w < 2 ^ 16
 content-lt w = mod-lt (w / 2 ^ 13) (pow_pos 16)
-
--- Bit i of the group, which is bit 13 + i of the received MLS word, is bit 14 + i % 16 of word i / 16 + 1 of the four.
-pub word-bit : (w₁ w₂ w₃ w₄ i : ℕ)
-    → (group_from w₁ w₂ w₃ w₄).bits / 2 ^ i % 2 ≡ bits (14 + i % 16) (14 + i % 16) (get_or (w₁ ∷ w₂ ∷ w₃ ∷ w₄ ∷ []) (i / 16) 0)
-word-bit w₁ w₂ w₃ w₄ i =
-    group_bit (bits 14 29 w₁) (bits 14 29 w₂) (bits 14 29 w₃) (bits 14 29 w₄) (content-lt w₁) (content-lt w₂) (content-lt w₃) (content-lt w₄) i
-    ∙ ap (λ (n : ℕ). n / 2 ^ (i % 16) % 2) (get_or-map (bits 14 29) (w₁ ∷ w₂ ∷ w₃ ∷ w₄ ∷ []) (i / 16) 0)
-    ∙ content-bit (get_or (w₁ ∷ w₂ ∷ w₃ ∷ w₄ ∷ []) (i / 16) 0) (i % 16) (mod-lt i (lit< tt))
 
 -- The content of part one is its word number (bits 14 to 21) and, above it, its record's content (bits 22 to 29).
 pub first-content : (w : ℕ) → bits 14 29 w ≡ bits 22 29 w * 256 + bits 14 21 w

@@ -1,14 +1,14 @@
 -- Which words carry a part, read off document 01's table and not from decoding, and which refusals the other words have.
 -- Assumes nothing.
-use Rattle.std.specs.Prelude.{ℕ, ◌+◌, ◌*◌, ◌≤◌, ◌≡◌, refl, Bool, true, false, cond, ◌&&◌, ◌↔◌, ◌⊎◌, eqb}
-use Rattle.std.proofs.Common.{sym, ap, ap₂, subst, ◌∙◌, inl, inr, arith, eqb-true, eq-eqb, lit≤}
+use Rattle.std.specs.Prelude.{ℕ, ◌+◌, ◌*◌, ◌≤◌, ◌≡◌, refl, Bool, true, false, cond, ◌&&◌, eqb}
+use Rattle.std.proofs.Common.{sym, ap, ap₂, subst, ◌∙◌, arith}
 use Rattle.bits.specs.Fields.{bits}
 use Rattle.bits.specs.Layout.{clear}
 use Rattle.bits.specs.Parity.{odd}
 use Rattle.records.specs.Layouts.{word_layout}
 use Rattle.refusals.specs.Numbers.{number_of}
 use Rattle.records.specs.declared.Kind.{Kind}
-use Rattle.records.specs.declared.Kind.TheVariants.{VorAzimuth, VorFrequency, IlsCourse, IlsGlide, IlsFrequency, MlsFrequency, MlsAzimuthDeviation, MlsGlideDeviation, SelectedAzimuth, GreatestGlideAngle, SelectedGlideAngle, Part1, Part2, Part3, Part4}
+use Rattle.records.specs.declared.Kind.TheVariants.{Part1, Part2, Part3, Part4}
 use Rattle.records.specs.declared.Record.{Record}
 use Rattle.refusals.specs.declared.Refusal.{Refusal}
 use Rattle.refusals.specs.declared.Refusal.TheVariants.{Parity, Label, ZeroBit, Code}
@@ -24,8 +24,7 @@ use Rattle.reassembly_parts.specs.declared.Part.{Part}
 use Rattle.reassembly_parts.specs.declared.Part.TheVariants.{One, Two, Three, Four}
 use Rattle.part_words.specs.declared.PartIn.{PartIn}
 use Rattle.part_words.specs.declared.PartIn.TheVariants.{Carried, Refused}
-use Rattle.part_words.specs.Parts.{only_parts, part_of, part_read, part_with, parity_broken}
-use Rattle.part_words.specs.Bits.{first-content}
+use Rattle.part_words.specs.Parts.{only_parts, part_of, part_read, part_with}
 
 -- A word that a row of the table allows: odd parity, the row's label, zeros from the bit `from` to bit 13, and the row's code in bits 31, 30.
 pub record PartWord (label from code w : ℕ) : Type 0 where
@@ -58,29 +57,12 @@ pub record PartKind (k : Kind) (from code : ℕ) (p : ℕ → Part) : Type 0 whe
   pub known_is : only_parts (Known k) ≡ Known k
   pub part_is : (w : ℕ) → part_of (bits 9 10 w) (body_of k w) ≡ Carried (p w)
 
-and-true : (b : Bool) → (b && true) ≡ b
+pub and-true : (b : Bool) → (b && true) ≡ b
 and-true true = refl
 and-true false = refl
 
-bytes : (n a b : ℕ) → n ≡ a * 256 + b → b + 256 * a ≡ n
+pub bytes : (n a b : ℕ) → n ≡ a * 256 + b → b + 256 * a ≡ n
 bytes n a b e = omega arith
-
-pub part1 : PartKind Part1 11 0 (λ w. One (bits 9 10 w) (bits 14 29 w))
-part1 = record {
-  zeros_are = λ w. and-true _;
-  code_is = λ w. refl;
-  known_is = refl;
-  part_is = λ w. ap (λ (c : ℕ). Carried (One (bits 9 10 w) c)) (bytes (bits 14 29 w) (bits 22 29 w) (bits 14 21 w) (first-content w));
-}
-
-pub part2 : PartKind Part2 11 1 (λ w. Two (bits 9 10 w) (bits 14 29 w))
-part2 = record { zeros_are = λ w. and-true _; code_is = λ w. refl; known_is = refl; part_is = λ w. refl }
-
-pub part3 : PartKind Part3 11 2 (λ w. Three (bits 9 10 w) (bits 14 29 w))
-part3 = record { zeros_are = λ w. and-true _; code_is = λ w. refl; known_is = refl; part_is = λ w. refl }
-
-pub part4 : PartKind Part4 12 3 (λ w. Four (bits 9 10 w) (bits 14 29 w) (eqb (bits 11 11 w) 1))
-part4 = record { zeros_are = λ w. and-true _; code_is = λ w. refl; known_is = refl; part_is = λ w. refl }
 
 coded-tested : (t : Bool) (r : Record) (q : Part)
     → unless_refused (judged (cond t Judgement.Kept (Judgement.Broken Code)) r) q ≡ cond t (Carried q) (Refused Code)
@@ -121,109 +103,29 @@ module _ {k : Kind} {from code : ℕ} {p : ℕ → Part} (r : PartKind k from co
       ∙ ap (λ (d : Decoded). unless_refused d (p w)) (decode-odd (a.kind (label_of w)) w o ∙ ap (λ (x : Lookup). decode_found x w) (ap a.kind l ∙ a.found k))
       ∙ kind_tested
 
-  row_carried : PartWord (a.label k) from code w → part_with a w ≡ Carried (p w)
-  row_carried h =
-      agrees-tested h.parity h.labelled
-      ∙ ap₂ (λ (z t : Bool). cond z (cond t (Carried (p w)) (Refused Code)) (Refused ZeroBit))
-      (eq-eqb (bits from 13 w) 0 h.zeros) (eq-eqb (bits 30 31 w) code h.coded)
-
 -- a label either stands for a part, or refuses every word that has it
-data PartLookup : Lookup → Type 0 where
+pub data PartLookup : Lookup → Type 0 where
   is_part1 : PartLookup (Known Part1)
   is_part2 : PartLookup (Known Part2)
   is_part3 : PartLookup (Known Part3)
   is_part4 : PartLookup (Known Part4)
 
-abbrev LabelRefused : Lookup → Type 0
+abbrev pub LabelRefused : Lookup → Type 0
 LabelRefused l = only_parts l ≡ Unknown
 
-lookups : (l : Lookup) → PartLookup l ⊎ LabelRefused l
-lookups Unknown = inr refl
-lookups (Known VorAzimuth) = inr refl
-lookups (Known VorFrequency) = inr refl
-lookups (Known IlsCourse) = inr refl
-lookups (Known IlsGlide) = inr refl
-lookups (Known IlsFrequency) = inr refl
-lookups (Known MlsFrequency) = inr refl
-lookups (Known MlsAzimuthDeviation) = inr refl
-lookups (Known MlsGlideDeviation) = inr refl
-lookups (Known SelectedAzimuth) = inr refl
-lookups (Known GreatestGlideAngle) = inr refl
-lookups (Known SelectedGlideAngle) = inr refl
-lookups (Known Part1) = inl is_part1
-lookups (Known Part2) = inl is_part2
-lookups (Known Part3) = inl is_part3
-lookups (Known Part4) = inl is_part4
-
 module _ (a : Assignment) (w : ℕ) where
-  found-refused : (l : Lookup) → odd w ≡ true → a.kind (label_of w) ≡ l → LabelRefused l → part_with a w ≡ Refused Label
+  pub found-refused : (l : Lookup) → odd w ≡ true → a.kind (label_of w) ≡ l → LabelRefused l → part_with a w ≡ Refused Label
   found-refused l o e q = ap (λ (x : Lookup). part_read (decode_as x w)) (ap only_parts e ∙ q) ∙ ap part_read (decode-odd Unknown w o)
 
-  -- A word of odd parity and another label is refused 2, whatever else is wrong with it.
-  pub other_label : odd w ≡ true → (label_of w ≡ a.label Part1 → ⊥) → (label_of w ≡ a.label Part2 → ⊥) → (label_of w ≡ a.label Part3 → ⊥)
-      → (label_of w ≡ a.label Part4 → ⊥) → part_with a w ≡ Refused Label
-  other_label o n₁ n₂ n₃ n₄ = by (a.kind (label_of w)) refl (lookups (a.kind (label_of w)))
-    where
-      by : (l : Lookup) → a.kind (label_of w) ≡ l → PartLookup l ⊎ LabelRefused l → part_with a w ≡ Refused Label
-      by l e (inl is_part1) = absurd (n₁ (sym (a.only (label_of w) Part1 e)))
-      by l e (inl is_part2) = absurd (n₂ (sym (a.only (label_of w) Part2 e)))
-      by l e (inl is_part3) = absurd (n₃ (sym (a.only (label_of w) Part3 e)))
-      by l e (inl is_part4) = absurd (n₄ (sym (a.only (label_of w) Part4 e)))
-      by l e (inr q) = found-refused l o e q
-
   -- either a word carries a part, or it is refused 1 to 4
-  data View : PartIn → Type 0 where
+  pub data View : PartIn → Type 0 where
     carries_part : {p : Part} → Carries a p w → View (Carried p)
     refused : {f : Refusal} → number_of f ≤ 4 → View (Refused f)
 
-  view_tested : (l from code : ℕ) (p : Part) → odd w ≡ true → label_of w ≡ l → (PartWord l from code w → Carries a p w) → View (tested from code w p)
-  view_tested l from code p o e h = by (eqb (bits from 13 w) 0) refl (eqb (bits 30 31 w) code) refl
-    where
-      by : (z : Bool) → eqb (bits from 13 w) 0 ≡ z → (t : Bool) → eqb (bits 30 31 w) code ≡ t
-          → View (cond z (cond t (Carried p) (Refused Code)) (Refused ZeroBit))
-      by true ez true et =
-          carries_part (h (record { parity = o; labelled = e; zeros = eqb-true (bits from 13 w) 0 ez; coded = eqb-true (bits 30 31 w) code et }))
-      by true ez false et = refused (lit≤ tt)
-      by false ez t et = refused (lit≤ tt)
-
-  view_part : {k : Kind} {from code : ℕ} {p : ℕ → Part} → PartKind k from code p → odd w ≡ true → a.kind (label_of w) ≡ Known k
-      → (PartWord (a.label k) from code w → Carries a (p w) w) → View (part_with a w)
-  view_part {k} {from} {code} {p} r o e h =
-      let l = sym (a.only (label_of w) k e) in
-      subst View (sym (agrees-tested r a w o l)) (view_tested (a.label k) from code (p w) o l h)
-
-  view_found : (l : Lookup) → odd w ≡ true → a.kind (label_of w) ≡ l → PartLookup l ⊎ LabelRefused l → View (part_with a w)
-  view_found l o e (inl is_part1) = view_part part1 o e λ h. (h, refl, refl)
-  view_found l o e (inl is_part2) = view_part part2 o e λ h. (h, refl, refl)
-  view_found l o e (inl is_part3) = view_part part3 o e λ h. (h, refl, refl)
-  view_found l o e (inl is_part4) = view_part part4 o e λ h. (h, refl, refl, refl)
-  view_found l o e (inr q) = subst View (sym (found-refused l o e q)) (refused (lit≤ tt))
-
-  view : View (part_with a w)
-  view = by (odd w) refl
-    where
-      by : (b : Bool) → odd w ≡ b → View (part_with a w)
-      by true o = view_found (a.kind (label_of w)) o refl (lookups (a.kind (label_of w)))
-      by false o = subst View (sym (parity_broken a w o)) (refused (lit≤ tt))
-
-  carried_only : {x : PartIn} → View x → (p : Part) → x ≡ Carried p → Carries a p w
+  pub carried_only : {x : PartIn} → View x → (p : Part) → x ≡ Carried p → Carries a p w
   carried_only (carries_part {p = q} h) p e = let i : q ≡ p = cc in subst (λ (x : Part). Carries a x w) i h
   carried_only (refused h) p e = let z : ◌≡◌ {A = ℕ} 0 1 = cc in absurd (omega arith)
 
-  refused-only : {x : PartIn} → View x → (f : Refusal) → x ≡ Refused f → number_of f ≤ 4
+  pub refused-only : {x : PartIn} → View x → (f : Refusal) → x ≡ Refused f → number_of f ≤ 4
   refused-only (carries_part h) f e = let z : ◌≡◌ {A = ℕ} 0 1 = cc in absurd (omega arith)
   refused-only (refused {f = g} h) f e = let i : g ≡ f = cc in subst (λ (x : Refusal). number_of x ≤ 4) i h
-
-  carried_all : (p : Part) → Carries a p w → part_with a w ≡ Carried p
-  carried_all (One s c) h = row_carried part1 a w h.0 ∙ λ i. Carried (One (h.1 i) (h.2 i))
-  carried_all (Two s c) h = row_carried part2 a w h.0 ∙ λ i. Carried (Two (h.1 i) (h.2 i))
-  carried_all (Three s c) h = row_carried part3 a w h.0 ∙ λ i. Carried (Three (h.1 i) (h.2 i))
-  carried_all (Four s c m) h = row_carried part4 a w h.0 ∙ λ i. Carried (Four (h.1 i) (h.2 i) (h.3 i))
-
-  -- A word carries a part just where the table allows it.
-  pub carries : (p : Part) → (part_with a w ≡ Carried p) ↔ Carries a p w
-  carries p = (carried_only view p, carried_all p)
-
-  -- Only the refusals 1 to 4 arise.
-  pub refusals : (f : Refusal) → part_with a w ≡ Refused f → number_of f ≤ 4
-  refusals f e = refused-only view f e

@@ -1,4 +1,6 @@
 // Why a figure and a count agree or do not.
+#![tactic(auto)]
+
 ghost use Rattle.std.specs.Prelude.{◌≡◌};
 ghost use Rattle.reasons.specs.Scaled.{scaled_agrees, scaled_for, reason_of};
 ghost use Rattle.explanations.specs.Explanations.{count_agrees};

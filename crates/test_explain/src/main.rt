@@ -2,6 +2,7 @@
 // millionths, and then `refused` and the number of the refusal, or the reason in a word, between single spaces. In the second file four lines
 // of the first are wrong.
 #![tactic(auto)]
+
 ghost use Rattle.std.specs.Prelude.{◌≡◌};
 ghost use Rattle.test_explain.specs.Vectors.{right};
 

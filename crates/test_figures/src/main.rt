@@ -2,6 +2,7 @@
 // then `refused` and the number of the refusal, or the coded word in hexadecimal, between single spaces. The second file has document
 // 01's own lines, the third figures at the half steps of the MLS deviations, and in the fourth four lines of the first are wrong.
 #![tactic(auto)]
+
 ghost use Rattle.std.specs.Prelude.{◌≡◌};
 ghost use Rattle.test_figures.specs.Vectors.{right};
 

@@ -1,4 +1,6 @@
 // The signed numbers in the lines of test vectors.
+#![tactic(auto)]
+
 ghost use Rattle.std.specs.Prelude.{◌≡◌};
 ghost use Rattle.test_numbers.specs.Signed.{signed_in};
 

@@ -1,5 +1,6 @@
 // Prints the readings of document 01's starred words, and three chart points, for comparison with `stdout`.
 #![tactic(auto)]
+
 use chart::Charted;
 use decode::Decoded;
 use readings::{Reading, Shown};

@@ -1,5 +1,6 @@
 // Hands the words of a file one after the other to a reassembler, and compares each answer with the one that stands beside the word.
 #![tactic(auto)]
+
 use reassembly::{Reassembler, WordAnswer};
 use reassembly_parts::Reassembly;
 use std::rt::Files;

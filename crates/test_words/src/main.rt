@@ -1,6 +1,7 @@
 // Decodes each word of the test vectors and compares its refusal and its count with what its line says: a word in hexadecimal, the number of
 // its refusal (0: accepted) and its count (0 where it has none), between single spaces. In the last file three lines are wrong.
 #![tactic(auto)]
+
 ghost use Rattle.std.specs.Prelude.{◌≡◌};
 ghost use Rattle.decode.specs.Decode.{decode_of};
 ghost use Rattle.pages.specs.Page.{refusal_in, count_in, count_of};

@@ -1,4 +1,6 @@
 // Whether a figure of a sheet agrees with the word just before it, and whether a word is refused.
+#![tactic(auto)]
+
 ghost use Rattle.std.specs.Prelude.{cond, ◌≡◌};
 ghost use Rattle.verdicts.specs.Verdicts.{measurement_verdict, verdict_of, is_refused};
 

@@ -1,4 +1,6 @@
 // The answer to a word, straight from its bits: no record is made.
+#![tactic(auto)]
+
 ghost use Rattle.std.specs.Prelude.{cond, ◌≡◌, eqb};
 ghost use Rattle.pages.specs.Page.{answer_of};
 ghost use Rattle.word_rows.specs.Asking.{is_listed, plain_judgement, judgement_by, count_by, clear_answer, known_answer, unknown_answer};

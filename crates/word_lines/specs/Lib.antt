@@ -1,4 +1,4 @@
 pub mod WordLines
 pub mod Lengths
 pub mod Theorems
-mod Examples
+pub mod Examples

@@ -1,7 +1,7 @@
 -- The answer by the row of a word's kind is the single call's: the row's tests are the kind's rules, and the count is that of the record.
 -- Assumes nothing.
 use Rattle.std.specs.Prelude.{◌≡◌, refl, Bool, true, false, not, cond, ℕ, ◌/◌, ◌%◌, ◌^◌, ◌<◌, T, eqb, leb}
-use Rattle.std.proofs.Common.{sym, ap, ap₂, ◌∙◌, mod-lt, arith, le-leb, lit<}
+use Rattle.std.proofs.Common.{sym, ap, ◌∙◌, mod-lt, arith, le-leb, lit<}
 use Rattle.std.specs.Int.Bits.{bit_and}
 use Rattle.std.specs.Int.Count.{ones_in}
 use Rattle.std.proofs.Math.Pow.{mod-mod-pow}
@@ -9,7 +9,6 @@ use Rattle.bits.specs.Fields.{bits}
 use Rattle.bits.specs.Layout.{clear, mask}
 use Rattle.bits.proofs.Laws.{mask_test}
 use Rattle.bits.specs.Parity.{odd}
-use Rattle.codes.specs.Codes.{marker_listed}
 use Rattle.refusals.specs.declared.Refusal.{Refusal}
 use Rattle.records.specs.All.{agree}
 use Rattle.records.specs.Layouts.{word_layout}
@@ -18,17 +17,16 @@ use Rattle.records.specs.declared.Kind.{Kind}
 use Rattle.records.specs.declared.Record.{Record}
 use Rattle.labels.specs.BytesLemmas.{every, every-at}
 use Rattle.labels.specs.declared.Lookup.{Lookup}
-use Rattle.decode.specs.Decode.{judgement, record_of, judged, decode_clear, decode_found, decode_as}
-use Rattle.decode.specs.Rules.{rules, body_of}
+use Rattle.decode.specs.Decode.{judged, decode_as}
 use Rattle.decode.specs.declared.Decoded.{Decoded}
 use Rattle.decode.specs.declared.Judgement.{Judgement}
 use Rattle.measurements.specs.Measurements.{measurement_of}
 use Rattle.pages.specs.Page.{count_in, answer_in, answer_of}
 use Rattle.pages.specs.declared.Answer.{Answer}
-use Rattle.word_rows.specs.RowLemmas.{byte_hit, byte_miss}
+use Rattle.word_rows.specs.RowLemmas.{byte_miss}
 use Rattle.word_rows.specs.Rows.{asked, candidate}
 use Rattle.word_rows.specs.declared.Asked.{Asked}
-use Rattle.word_rows.specs.Asking.{is_listed, most, checked, plain_judgement, judgement_by, count_by, refused, judged_answer, clear_answer, known_answer, unknown_answer}
+use Rattle.word_rows.specs.Asking.{is_listed, most, checked, plain_judgement, refused, judged_answer, unknown_answer}
 
 -- ---- the codes
 
@@ -43,104 +41,66 @@ alike_same false true t = absurd t
 alike_same false false t = refl
 
 -- two tests that agree on each of the eight codes of three bits
-eight : (p q : ℕ → Bool) → T (every (λ (c : ℕ). alike (p c) (q c)) 8) → (c : ℕ) → c < 8 → p c ≡ q c
+pub eight : (p q : ℕ → Bool) → T (every (λ (c : ℕ). alike (p c) (q c)) 8) → (c : ℕ) → c < 8 → p c ≡ q c
 eight p q t c h = alike_same (p c) (q c) (every-at (λ (x : ℕ). alike (p x) (q x)) 8 t c h)
 
 -- code c is in a list of codes
-abbrev among : (codes c : ℕ) → Bool
+abbrev pub among : (codes c : ℕ) → Bool
 among codes c = eqb (codes / 2 ^ c % 2) 1
 
-three : (w place : ℕ) → w / 2 ^ place % 8 < 8
+pub three : (w place : ℕ) → w / 2 ^ place % 8 < 8
 three w place = mod-lt (w / 2 ^ place) (lit< tt)
 
-marker : (w : ℕ) → is_listed (asked Kind.VorAzimuth) w ≡ marker_listed (w / 1024 % 8)
-marker w = eight (among (asked Kind.VorAzimuth).codes) marker_listed tt (w / 1024 % 8) (three w 10)
-
-every_code : (w : ℕ) → among 0xff (w / 2 ^ 0 % 8) ≡ true
+pub every_code : (w : ℕ) → among 0xff (w / 2 ^ 0 % 8) ≡ true
 every_code w = eight (among 0xff) (λ c. true) tt (w / 2 ^ 0 % 8) (three w 0)
 
 -- of bits 30 to 32 only the lower two are the part's code
-part : (k : Kind) (code w : ℕ) → T (every (λ (c : ℕ). alike (among (asked k).codes c) (eqb (c % 4) code)) 8) → among (asked k).codes (w / 2 ^ 29 % 8) ≡ eqb (w / 2 ^ 29 % 4) code
+pub part : (k : Kind) (code w : ℕ) → T (every (λ (c : ℕ). alike (among (asked k).codes c) (eqb (c % 4) code)) 8) → among (asked k).codes (w / 2 ^ 29 % 8) ≡ eqb (w / 2 ^ 29 % 4) code
 part k code w t =
     eight (among (asked k).codes) (λ (c : ℕ). eqb (c % 4) code) t (w / 2 ^ 29 % 8) (three w 29) ∙ ap (λ (c : ℕ). eqb c code) (mod-mod-pow (w / 2 ^ 29) 1 2)
 
 -- ---- a row's tests and count are those of its kind
 
-any-setting : (w : ℕ) → leb (bits 20 28 w) 511 ≡ true
+pub any-setting : (w : ℕ) → leb (bits 20 28 w) 511 ≡ true
 any-setting w = le-leb (bits 20 28 w) 511 (omega arith)
 
 -- the three tests of a word that is no frequency
 abbrev plain : (listed within right : Bool) → Judgement
 plain listed within right = cond listed (cond within (cond right Judgement.Kept (Judgement.Broken Refusal.AngleParity)) (Judgement.Broken Refusal.Value)) (Judgement.Broken Refusal.Code)
 
-judged_by : (a : Asked) (w : ℕ) {listed within right : Bool} → is_listed a w ≡ listed → leb (bits 20 28 w) (most a) ≡ within → odd (checked a w) ≡ right → plain_judgement a w ≡ plain listed within right
+pub judged_by : (a : Asked) (w : ℕ) {listed within right : Bool} → is_listed a w ≡ listed → leb (bits 20 28 w) (most a) ≡ within → odd (checked a w) ≡ right → plain_judgement a w ≡ plain listed within right
 judged_by a w e f g = λ i. plain (e i) (f i) (g i)
 
-one-odd : odd 1 ≡ true
+pub one-odd : odd 1 ≡ true
 unfolding ones_in
 one-odd = refl
 
 -- a kind that only lists codes
-coded : (k : Kind) (w : ℕ) {listed : Bool} → is_listed (asked k) w ≡ listed → (asked k).limited ≡ 0 → (asked k).angle ≡ 0 → plain_judgement (asked k) w ≡ plain listed true true
+pub coded : (k : Kind) (w : ℕ) {listed : Bool} → is_listed (asked k) w ≡ listed → (asked k).limited ≡ 0 → (asked k).angle ≡ 0 → plain_judgement (asked k) w ≡ plain listed true true
 coded k w e l a =
     judged_by (asked k) w e (ap (λ (n : ℕ). leb (bits 20 28 w) (cond (eqb n 1) 359 511)) l ∙ any-setting w) (ap (λ (n : ℕ). odd (cond (eqb n 1) (bits 20 28 w) 1)) a ∙ one-odd)
-
-pub judgement_by_lem : (k : Kind) (w : ℕ) → judgement_by (asked k) w ≡ judgement (rules k w)
-judgement_by_lem Kind.VorAzimuth w = coded Kind.VorAzimuth w (marker w) refl refl
-judgement_by_lem Kind.VorFrequency w = refl
-judgement_by_lem Kind.IlsCourse w = coded Kind.IlsCourse w (every_code w) refl refl
-judgement_by_lem Kind.IlsGlide w = coded Kind.IlsGlide w (every_code w) refl refl
-judgement_by_lem Kind.IlsFrequency w = refl
-judgement_by_lem Kind.MlsFrequency w = refl
-judgement_by_lem Kind.MlsAzimuthDeviation w = coded Kind.MlsAzimuthDeviation w (every_code w) refl refl
-judgement_by_lem Kind.MlsGlideDeviation w = coded Kind.MlsGlideDeviation w (every_code w) refl refl
-judgement_by_lem Kind.SelectedAzimuth w = judged_by (asked Kind.SelectedAzimuth) w (every_code w) refl one-odd
-judgement_by_lem Kind.GreatestGlideAngle w = judged_by (asked Kind.GreatestGlideAngle) w (every_code w) (any-setting w) refl
-judgement_by_lem Kind.SelectedGlideAngle w = coded Kind.SelectedGlideAngle w (every_code w) refl refl
-judgement_by_lem Kind.Part1 w = coded Kind.Part1 w (part Kind.Part1 0 w tt) refl refl
-judgement_by_lem Kind.Part2 w = coded Kind.Part2 w (part Kind.Part2 1 w tt) refl refl
-judgement_by_lem Kind.Part3 w = coded Kind.Part3 w (part Kind.Part3 2 w tt) refl refl
-judgement_by_lem Kind.Part4 w = coded Kind.Part4 w (part Kind.Part4 3 w tt) refl refl
-
-pub count_by_lem : (w : ℕ) (k : Kind) → count_by (asked k) w ≡ count_in (measurement_of (body_of k w))
-count_by_lem w = agree (λ k. count_by (asked k) w) (λ k. count_in (measurement_of (body_of k w))) refl
 
 asked-zeros : (k : Kind) → (asked k).zeros ≡ mask (word_layout k)
 asked-zeros = agree (λ k. (asked k).zeros) (λ k. mask (word_layout k)) refl
 
-cleared : (k : Kind) (w : ℕ) → eqb (bit_and w (asked k).zeros) 0 ≡ clear (word_layout k) w
+pub cleared : (k : Kind) (w : ℕ) → eqb (bit_and w (asked k).zeros) 0 ≡ clear (word_layout k) w
 cleared k w = ap (λ (z : ℕ). eqb (bit_and w z) 0) (asked-zeros k) ∙ mask_test (word_layout k) w (whole k)
 
 -- ---- the answer
 
-judged-answer : (j : Judgement) (r : Record) → judged_answer j (count_in (measurement_of r.body)) ≡ answer_in (judged j r)
+pub judged-answer : (j : Judgement) (r : Record) → judged_answer j (count_in (measurement_of r.body)) ≡ answer_in (judged j r)
 judged-answer Judgement.Kept r = refl
 judged-answer (Judgement.Broken f) r = refl
 
-clear-answer : (k : Kind) (w : ℕ) → clear_answer (asked k) w ≡ answer_in (decode_clear k w)
-clear-answer k w = ap₂ judged_answer (judgement_by_lem k w) (count_by_lem w k) ∙ judged-answer (judgement (rules k w)) (record_of k w)
-
 -- a test that fails refuses
-tested : (b : Bool) (x : Answer) (d : Decoded) (f : Refusal) → x ≡ answer_in d → cond b x (refused f) ≡ answer_in (cond b d (Decoded.Refused f))
+pub tested : (b : Bool) (x : Answer) (d : Decoded) (f : Refusal) → x ≡ answer_in d → cond b x (refused f) ≡ answer_in (cond b d (Decoded.Refused f))
 tested true x d f e = e
 tested false x d f e = refl
-
-pub known-answer : (k : Kind) (w : ℕ) → known_answer (asked k) w ≡ answer_in (decode_as (Lookup.Known k) w)
-known-answer k w =
-    tested (odd w) _ (decode_found (Lookup.Known k) w) Refusal.Parity
-    (ap (λ (b : Bool). cond b (clear_answer (asked k) w) (refused Refusal.ZeroBit)) (cleared k w)
-    ∙ tested (clear (word_layout k) w) (clear_answer (asked k) w) (decode_clear k w) Refusal.ZeroBit (clear-answer k w))
 
 pub unknown_answer_lem : (w : ℕ) → unknown_answer w ≡ answer_in (decode_as Lookup.Unknown w)
 unknown_answer_lem w = tested (odd w) (refused Refusal.Label) (Decoded.Refused Refusal.Label) Refusal.Parity refl
 
 module _ (w : ℕ) (a : Asked) (told : a ≡ asked (candidate (w % 256))) where
-  -- the answer to a word with the byte of its candidate's row, and to one with another byte
-  pub answer_hit : a.byte ≡ w % 256 → known_answer a w ≡ answer_of w
-  answer_hit e =
-      ap (λ (x : Asked). known_answer x w) told ∙ known-answer (candidate (w % 256)) w
-      ∙ ap (λ (l : Lookup). answer_in (decode_as l w)) (sym (byte_hit w (ap (λ (x : Asked). x.byte) (sym told) ∙ e)))
-
   pub answer_miss : (a.byte ≡ w % 256 → ⊥) → unknown_answer w ≡ answer_of w
   answer_miss n =
       unknown_answer_lem w
