@@ -25,8 +25,10 @@ use Rattle.word_lines.specs.WordLines.{record_line, refused_line, decoded_line, 
 use Rattle.lines.specs.Lines.{total_line, refusal_line}
 use Rattle.totals.specs.Totals.{words_in, refused_words_in}
 use Rattle.listing.specs.Listing.{listing_of, text_of}
-use Rattle.listing_laws.specs.Count.{line_ends, figures_in, one_line_each}
-use Rattle.listing_laws.specs.Groups.{lines_of_trees, text_by_groups}
+use Rattle.listing_laws.specs.Count.{line_ends, figures_in}
+use Rattle.listing_laws.proofs.Count.{one_line_each}
+use Rattle.listing_laws.specs.Groups.{lines_of_trees}
+use Rattle.listing_laws.proofs.Groups.{text_by_groups}
 
 -- `text` is the text of a sheet's listing, and `line` that of a word's line.
 pub record Listing (text : List ℕ → List ℕ) (line : ℕ → List ℕ) : Type 0 where

@@ -2,6 +2,4 @@
 pub mod FieldLines
 pub mod LoopLemmas
 pub mod Size
-pub mod Examples
 pub mod TheoremsLemmas
-pub mod Theorems

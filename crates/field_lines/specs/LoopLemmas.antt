@@ -1,10 +1,9 @@
 -- The text on its way: what is written so far and the lines of the fields ahead make up the sheet's (walk/specs/Fold.antt).
 -- Assumes nothing.
-use Rattle.std.specs.Prelude.{◌≡◌, refl, List, [], ◌++◌, ℕ, ◌+◌, ◌-◌, ◌≤◌, length, take, drop}
-use Rattle.std.proofs.Common.{sym, ap, ap₂, ◌∙◌, append-nil, append_assoc, arith, length-drop, length-take-le}
-use Rattle.refusals.specs.declared.Refusal.{Refusal}
+use Rattle.std.specs.Prelude.{◌≡◌, List, [], ◌++◌, ℕ, ◌+◌, ◌-◌, ◌≤◌, length, take, drop}
+use Rattle.std.proofs.Common.{sym, ap, ap₂, ◌∙◌, append_assoc, arith, length-drop, length-take-le}
 use Rattle.fields.specs.declared.FieldKind.{FieldKind}
-use Rattle.fields.specs.Run.{Field, Scan, Fields, Refused, sheet_of}
+use Rattle.fields.specs.Run.{Scan, Fields, Refused}
 use Rattle.walk.specs.declared.Walk.{Walk}
 use Rattle.walk.specs.declared.FieldAt.{FieldAt}
 use Rattle.walk.specs.declared.Given.{Given}
@@ -14,22 +13,18 @@ use Rattle.walk.specs.Step.{step_of}
 use Rattle.walk.specs.Rest.{field_of}
 use Rattle.walk.specs.Fold.{Loop}
 use Rattle.walk.proofs.Fold.{loop_starts}
-use Rattle.walk.proofs.Fold.{loop_goes, loop_ends, loop_refused}
+use Rattle.walk.proofs.Fold.{loop_goes}
 use Rattle.text.specs.Ascii.{ascii}
-use Rattle.text.specs.Writing.{last, Writes, named, empty}
+use Rattle.text.specs.Writing.{last, Writes, empty}
 use Rattle.text.proofs.Writing.{joined}
 use Rattle.lines.specs.Lines.{refusal_line}
 use Rattle.field_texts.specs.FieldTexts.{content_text}
-use Rattle.field_lines.specs.FieldLines.{head_text, line_of, lines_of, fields_text, text_of}
+use Rattle.field_lines.specs.FieldLines.{head_text, line_of, lines_of}
 
 -- a text with that of what is ahead
 abbrev pub listed : List ℕ → Scan → List ℕ
 listed done (Fields fs) = done ++ lines_of fs
 listed done (Refused f p) = done ++ refusal_line f p
-
-listed-all : (r : Scan) → listed [] r ≡ fields_text r
-listed-all (Fields fs) = refl
-listed-all (Refused f p) = refl
 
 -- a loop that has stored its text
 pub record Going (s out₀ out : List ℕ) (w : Walk) (at : ℕ) : Type 0 where
@@ -50,14 +45,6 @@ module _ (s out₀ out : List ℕ) (w : Walk) (at : ℕ) (r : WalkStep) (g : Goi
         loop = loop_goes g.loop found (g.done ++ line) told (λ fs. sym (append_assoc g.done line (lines_of fs)));
         written = joined g.written h;
       }
-
-  -- where no field is ahead, the text is the sheet's
-  pub at_end : r.given ≡ Given.End → Writes out₀ 0 (text_of s) out at
-  at_end told = named g.written (sym (append-nil g.done) ∙ loop_ends g.loop found told ∙ listed-all (sheet_of s))
-
-  pub with_refusal : (f : Refusal) (place : ℕ) → r.given ≡ Given.Refused f place → (out' : List ℕ) (n : ℕ)
-      → Writes out at (refusal_line f place) out' n → Writes out₀ 0 (text_of s) out' n
-  with_refusal f place told out' n h = named (joined g.written h) (loop_refused g.loop found told ∙ listed-all (sheet_of s))
 
 -- the line of a field that a walk gives, by the part of the sheet that is its content
 pub part_line : (s : List ℕ) (a : FieldAt) (k : FieldKind) → a.kind ≡ k → a.place + 3 + a.length ≤ length s

@@ -1,24 +1,22 @@
 -- How long the text is at most: a line has at most six bytes for each byte of the sheet that is its field's own.
 -- Assumes nothing.
-use Rattle.std.specs.Prelude.{◌≡◌, refl, Bool, true, false, cond, List, [], ◌∷◌, ◌++◌, ℕ, ◌+◌, ◌*◌, ◌-◌, ◌^◌, ◌≤◌, ◌<◌, eqb, ltb, pos, negsuc, nat_abs, length, drop, get_or}
-use Rattle.std.proofs.Common.{sym, ◌∙◌, zero-le, arith, eqb-true, le-ltb, ltb-true, ltb-false, length-append}
+use Rattle.std.specs.Prelude.{◌≡◌, refl, Bool, true, false, cond, List, [], ◌∷◌, ◌++◌, ℕ, ◌*◌, ◌-◌, ◌^◌, ◌≤◌, ◌<◌, eqb, ltb, pos, negsuc, nat_abs, length, drop, get_or}
+use Rattle.std.proofs.Common.{zero-le, arith, eqb-true, ltb-true, ltb-false, length-append}
 use Rattle.bits.specs.Complement.{signed}
 use Rattle.refusals.specs.declared.Refusal.{Refusal}
 use Rattle.fields.specs.declared.FieldKind.{FieldKind}
-use Rattle.fields.specs.Run.{Field, Scan, Fields, Refused, sheet_of}
+use Rattle.fields.specs.Run.{Field, Refused}
 use Rattle.fields.specs.Limits.{Placed, Every, nothing, ◌also◌}
-use Rattle.fields.proofs.Limits.{longer, sheet_fields}
 use Rattle.contents.specs.declared.FigureIn.{FigureIn}
 use Rattle.contents.specs.BigEndian.{value_of}
 use Rattle.text.specs.Ascii.{ascii}
 use Rattle.text.specs.Writing.{last}
 use Rattle.numerals.specs.Digits.{octal3, signed_fixed}
 use Rattle.numerals.specs.Theorems.{decimal-length, padded-length, signed-length}
-use Rattle.lines.specs.Lengths.{refusal_line_length}
-use Rattle.listing.specs.Size.{own, owned, fields_owned, refusal_short}
+use Rattle.listing.specs.Size.{own, owned}
 use Rattle.hex_texts.specs.HexTexts.{hex_byte}
 use Rattle.field_texts.specs.FieldTexts.{each, note_byte, is_plain, figure_words, figure_text, content_text}
-use Rattle.field_lines.specs.FieldLines.{head_text, line_of, lines_of, fields_text, text_of}
+use Rattle.field_lines.specs.FieldLines.{head_text, line_of, lines_of}
 
 -- ---- contents
 
@@ -70,7 +68,7 @@ line_short n few f h =
     line_by f.kind f.content (head_text f.place f.depth f.kind (length f.content))
     (head_short f.place f.depth f.kind (length f.content) (omega (arith, h.last)) (omega (arith, h.deep.1)) (omega (arith, h.last)))
 
-lines_short : (n : ℕ) → n ≤ 32768 → (fs : List Field) → Every (Placed 1 0 n) fs → length (lines_of fs) ≤ 6 * owned fs
+pub lines_short : (n : ℕ) → n ≤ 32768 → (fs : List Field) → Every (Placed 1 0 n) fs → length (lines_of fs) ≤ 6 * owned fs
 lines_short n few [] nothing = zero-le
 lines_short n few (f ∷ fs) (h also hs) =
     omega (arith, length-append (line_of f) (lines_of fs), line_short n few f h, lines_short n few fs hs)
@@ -80,20 +78,3 @@ lines_short n few (f ∷ fs) (h also hs) =
 -- The text of every sheet has at most 196,608 bytes.
 abbrev pub longest : ℕ
 longest = 196608
-
-pub text_short : (s : List ℕ) → length (text_of s) ≤ longest
-text_short s = by (sheet_of s) refl
-  where
-    by : (r : Scan) → sheet_of s ≡ r → length (fields_text r) ≤ longest
-    by (Refused f p) e = omega (arith, refusal_line_length f p (refusal_short s f p e))
-    by (Fields fs) e = at (ltb 32768 (length s)) refl
-      where
-        at : (b : Bool) → ltb 32768 (length s) ≡ b → length (lines_of fs) ≤ longest
-        at true l = let clash : Refused Refusal.Oversize 0 ≡ Fields fs = sym (longer s (ltb-true 32768 (length s) l)) ∙ e in let z : ◌≡◌ {A = ℕ} 0 1 = cc in absurd (omega arith)
-        at false l = omega (arith, lines_short (length s) (ltb-false 32768 (length s) l) fs (sheet_fields s fs e), fields_owned s fs e)
-
-pub text_counted : (s : List ℕ) → length (text_of s) ≤ last
-text_counted s = omega (arith, text_short s)
-
-pub never_longer : (s : List ℕ) (room : ℕ) → longest ≤ room → false ≡ ltb room (length (text_of s))
-never_longer s room h = sym (le-ltb room (length (text_of s)) (omega (arith, text_short s)))

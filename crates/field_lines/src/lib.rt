@@ -1,5 +1,6 @@
 // The fields of a sheet, a line for each, as text in a buffer.
 #![tactic(auto)]
+
 ghost use Rattle.std.specs.Prelude.{◌≡◌, ◌+◌, ◌≤◌, ltb, length};
 ghost use Rattle.walk.specs.Rest.{field_of};
 ghost use Rattle.text.specs.Writing.{Writes};

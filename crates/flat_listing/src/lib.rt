@@ -1,4 +1,6 @@
 // The listing of a sheet, with its answer as numbers.
+#![tactic(auto)]
+
 ghost use Rattle.std.specs.Prelude.{◌≡◌};
 ghost use Rattle.listing.specs.Listing.{text_of, listed_of, buffer_of};
 ghost use Rattle.flat_listing.specs.Listed.{flat_listed};

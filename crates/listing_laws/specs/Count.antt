@@ -1,16 +1,13 @@
 -- A listing ends with its total, and has one line for each word field and each figure field, and one for the total.
 -- Assumes nothing.
 use Rattle.std.specs.Prelude.{◌≡◌, refl, Bool, true, false, cond, List, [], ◌∷◌, ◌++◌, ℕ, zero, suc, ◌+◌, ◌/◌, ◌^◌, ◌<◌, eqb, ℤ, length}
-use Rattle.std.proofs.Common.{sym, ap, ap₂, ◌∙◌, arith, ne_eqb, lit<}
+use Rattle.std.proofs.Common.{ap, arith, ne_eqb, lit<}
 use Rattle.std.proofs.lemmas.Bool.{false≢true}
 use Rattle.refusals.specs.Numbers.{number_of}
 use Rattle.refusals.specs.declared.Refusal.{Refusal}
 use Rattle.statuses.specs.declared.Status.{Status}
 use Rattle.fields.specs.declared.FieldKind.{FieldKind}
-use Rattle.fields.specs.Start.{length_allowed}
 use Rattle.fields.specs.Run.{Field, Fields, sheet_of}
-use Rattle.fields.specs.Grammar.{Trees, no_more, leaf, group, Bytes, bytes_of, fields_of, Allowed, no_more_allowed, leaf_allowed, group_allowed}
-use Rattle.fields.proofs.Grammar.{written_sheet}
 use Rattle.contents.specs.declared.WordIn.{WordIn}
 use Rattle.contents.specs.declared.FigureIn.{FigureIn}
 use Rattle.contents.specs.BigEndian.{value_of}
@@ -28,10 +25,9 @@ use Rattle.numerals.specs.Digits.{decimal, padded, octal3, fixed, sign}
 use Rattle.numerals.specs.Theorems.{Digits, decimal-digits, padded-digits}
 use Rattle.word_lines.specs.WordLines as words
 use Rattle.lines.specs.Lines as lines
-use Rattle.totals.specs.Totals.{is_word, words_in, refused_words_in}
+use Rattle.totals.specs.Totals.{words_in, refused_words_in}
 use Rattle.listing.specs.declared.Before.{Before}
-use Rattle.listing.specs.Listing.{line_of_word, line_of_figure, line_after, lines_of, listing_of, text_of}
-use Rattle.listing_laws.specs.Groups.{seen, lines_of_trees, lines_by_groups}
+use Rattle.listing.specs.Listing.{line_of_word, line_of_figure, lines_of, listing_of, text_of}
 
 -- ---- what is counted
 
@@ -53,7 +49,7 @@ figures_in (f ∷ fs) = is_figure f.kind + figures_in fs
 
 -- ---- pieces of a line
 
-ends_append : (s t : List ℕ) → line_ends (s ++ t) ≡ line_ends s + line_ends t
+pub ends_append : (s t : List ℕ) → line_ends (s ++ t) ≡ line_ends s + line_ends t
 ends_append [] t = omega arith
 ends_append (c ∷ s) t = let rest : line_ends (s ++ t) ≡ line_ends s + line_ends t = ends_append s t in omega arith
 
@@ -127,7 +123,7 @@ verdict_one Verdict.Agrees = refl
 verdict_one Verdict.Differs = refl
 verdict_one Verdict.Unmatched = refl
 
-total-one : (words refused : ℕ) → line_ends (lines.total_line words refused) ≡ 1
+pub total-one : (words refused : ℕ) → line_ends (lines.total_line words refused) ≡ 1
 total-one words refused =
     one_end ((ascii "words " ++ decimal words) ++ (ascii " refused " ++ decimal refused))
     (none_both (ascii "words " ++ decimal words) (ascii " refused " ++ decimal refused)
@@ -135,65 +131,24 @@ total-one words refused =
 
 -- ---- the lines of a list of fields
 
-word-field : (c : List ℕ) (b : Bool) → eqb (length c) 4 ≡ b → b ≡ true → line_ends (line_of_word (cond b (WordIn.Word (value_of c)) (WordIn.Refused Refusal.Length))) ≡ 1
+pub word-field : (c : List ℕ) (b : Bool) → eqb (length c) 4 ≡ b → b ≡ true → line_ends (line_of_word (cond b (WordIn.Word (value_of c)) (WordIn.Refused Refusal.Length))) ≡ 1
 word-field c true e h = word-one (decode_of (value_of c)) _
 word-field c false e h = absurd (false≢true h)
 
-figure_field : (p : Previous) (l : ℕ) (m : ℤ) (b : Bool) → b ≡ true → line_ends (line_of_figure p (cond b (FigureIn.Figure l m) (FigureIn.Refused Refusal.Length))) ≡ 1
+pub figure_field : (p : Previous) (l : ℕ) (m : ℤ) (b : Bool) → b ≡ true → line_ends (line_of_figure p (cond b (FigureIn.Figure l m) (FigureIn.Refused Refusal.Length))) ≡ 1
 figure_field p l m true h = verdict_one (verdict_of p l m)
 figure_field p l m false h = absurd (false≢true h)
 
-line_one : (p : Previous) (k : FieldKind) (c : List ℕ) → length_allowed k (length c) ≡ true → line_ends (line_after p k c) ≡ is_word k + is_figure k
-line_one p FieldKind.Word c h = word-field c (eqb (length c) 4) refl h
-line_one p FieldKind.Figure c h = figure_field p _ _ (eqb (length c) 9) h
-line_one p FieldKind.Note c h = refl
-line_one p FieldKind.Group c h = refl
-
-words_append : (fs gs : List Field) → words_in (fs ++ gs) ≡ words_in fs + words_in gs
+pub words_append : (fs gs : List Field) → words_in (fs ++ gs) ≡ words_in fs + words_in gs
 words_append [] gs = omega arith
 words_append (f ∷ fs) gs = omega (arith, words_append fs gs)
 
-figures-append : (fs gs : List Field) → figures_in (fs ++ gs) ≡ figures_in fs + figures_in gs
+pub figures-append : (fs gs : List Field) → figures_in (fs ++ gs) ≡ figures_in fs + figures_in gs
 figures-append [] gs = omega arith
 figures-append (f ∷ fs) gs = omega (arith, figures-append fs gs)
-
-trees_lines : (d place : ℕ) (p : Previous) (ts : Trees) → Allowed d ts → line_ends (lines_of_trees p ts) ≡ words_in (fields_of d place ts) + figures_in (fields_of d place ts)
-trees_lines d place p no_more no_more_allowed = refl
-trees_lines d place p (leaf k c ts) (leaf_allowed plain long short b rest) =
-    omega (
-      arith,
-      ends_append (line_after p k c) (lines_of_trees (seen k c) ts),
-      line_one p k c long,
-      trees_lines d (place + 3 + length c) (seen k c) ts rest,
-    )
-trees_lines d place p (group us ts) (group_allowed deep short inner rest) =
-    let inside : List Field = fields_of (suc d) (place + 3) us in
-    let behind : List Field = fields_of d (place + 3 + length (bytes_of us)) ts in
-    omega (
-      arith,
-      ends_append (lines_of_trees Previous.Other us) (lines_of_trees Previous.Other ts),
-      trees_lines (suc d) (place + 3) Previous.Other us inner,
-      trees_lines d (place + 3 + length (bytes_of us)) Previous.Other ts rest,
-      words_append inside behind,
-      figures-append inside behind,
-    )
 
 -- ---- the whole listing
 
 -- The text of a legal sheet is the lines of its fields, and ends with the total.
 pub ends_with-total : (s : List ℕ) (fs : List Field) → sheet_of s ≡ Fields fs → text_of s ≡ lines_of Before.Nothing fs ++ lines.total_line (words_in fs) (refused_words_in fs)
 ends_with-total s fs e = ap listing_of e
-
--- It has one line for each word field and each figure field, and the total's.
-pub one_line_each : (s : List ℕ) → Bytes s → (fs : List Field) → sheet_of s ≡ Fields fs → line_ends (text_of s) ≡ words_in fs + figures_in fs + 1
-one_line_each s b fs e =
-    let w = (written_sheet s b fs e).1 in
-    let these : fields_of 1 0 w.trees ≡ fs = w.fields in
-    let lines_are : line_ends (lines_of Before.Nothing fs) ≡ words_in fs + figures_in fs =
-    ap (λ (gs : List Field). line_ends (lines_of Before.Nothing gs)) (sym these)
-    ∙ ap line_ends (lines_by_groups 1 0 w.trees Before.Nothing)
-    ∙ trees_lines 1 0 Previous.Other w.trees w.allowed
-    ∙ ap (λ (gs : List Field). words_in gs + figures_in gs) these in
-    ap line_ends (ends_with-total s fs e)
-    ∙ ends_append (lines_of Before.Nothing fs) (lines.total_line (words_in fs) (refused_words_in fs))
-    ∙ ap₂ (λ (x y : ℕ). x + y) lines_are (total-one (words_in fs) (refused_words_in fs))

@@ -1,17 +1,15 @@
 -- The listing by the groups of a sheet: a figure is tested against the field just before it in its own list, and a group is listed by itself.
 -- Assumes nothing.
-use Rattle.std.specs.Prelude.{◌≡◌, refl, List, [], ◌∷◌, ◌++◌, ℕ, suc, ◌+◌, ◌≤◌, ◌<◌, length}
-use Rattle.std.proofs.Common.{sym, ap, ap₂, subst, ◌∙◌, append_assoc, arith, eq-eqb, ne_eqb}
+use Rattle.std.specs.Prelude.{◌≡◌, refl, List, [], ◌∷◌, ◌++◌, ℕ, suc, ◌+◌, ◌<◌, length}
+use Rattle.std.proofs.Common.{sym, ap, subst, ◌∙◌, append_assoc, arith, eq-eqb, ne_eqb}
 use Rattle.fields.specs.declared.FieldKind.{FieldKind}
 use Rattle.fields.specs.Run.{Field}
-use Rattle.fields.specs.Grammar.{Trees, no_more, leaf, group, bytes_of, fields_of, Allowed}
-use Rattle.fields.proofs.Grammar.{sheet_written}
+use Rattle.fields.specs.Grammar.{Trees, no_more, leaf, group, bytes_of, fields_of}
 use Rattle.contents.specs.declared.WordIn.{WordIn}
 use Rattle.verdicts.specs.declared.Previous.{Previous}
-use Rattle.lines.specs.Lines.{total_line}
-use Rattle.totals.specs.Totals.{word_of, words_in, refused_words_in}
+use Rattle.totals.specs.Totals.{word_of}
 use Rattle.listing.specs.declared.Before.{Before}
-use Rattle.listing.specs.Listing.{previous, word_at, after, line_after, line_of, lines_of, listing_of, text_of}
+use Rattle.listing.specs.Listing.{previous, word_at, after, line_after, line_of, lines_of}
 
 -- ---- what is stated
 
@@ -32,11 +30,11 @@ lines_of_trees p (group us ts) = lines_of_trees Previous.Other us ++ lines_of_tr
 -- ---- one list after another
 
 -- what the last field is to the next one
-abbrev last_of : Before → List Field → Before
+abbrev pub last_of : Before → List Field → Before
 last_of b [] = b
 last_of b (f ∷ fs) = last_of (after f.kind f.depth f.content) fs
 
-lines-append : (b : Before) (fs gs : List Field) → lines_of b (fs ++ gs) ≡ lines_of b fs ++ lines_of (last_of b fs) gs
+pub lines-append : (b : Before) (fs gs : List Field) → lines_of b (fs ++ gs) ≡ lines_of b fs ++ lines_of (last_of b fs) gs
 lines-append b [] gs = refl
 lines-append b (f ∷ fs) gs =
     let line : List ℕ = line_of b f.kind f.depth f.content in
@@ -44,11 +42,11 @@ lines-append b (f ∷ fs) gs =
     ap (λ (t : List ℕ). line ++ t) (lines-append next fs gs) ∙ sym (append_assoc line (lines_of next fs) (lines_of (last_of next fs) gs))
 
 -- a word at a greater depth is not seen
-data Deeper (d : ℕ) : Before → Type 0 where
+pub data Deeper (d : ℕ) : Before → Type 0 where
   no_word : Deeper d Before.Nothing
   deep_word : {e w : ℕ} → d < e → Deeper d (Before.Word e w)
 
-not_seen : (d : ℕ) (b : Before) → Deeper d b → previous b d ≡ Previous.Other
+pub not_seen : (d : ℕ) (b : Before) → Deeper d b → previous b d ≡ Previous.Other
 not_seen d Before.Nothing no_word = refl
 not_seen d (Before.Word e w) (deep_word h) = rw (ne_eqb e d (λ q. omega arith))
 
@@ -61,7 +59,7 @@ last-append b [] gs = refl
 last-append b (f ∷ fs) gs = last-append (after f.kind f.depth f.content) fs gs
 
 -- the last field of a deeper list is not seen
-last_deeper : (d e p : ℕ) (ts : Trees) (b : Before) → d < e → Deeper d b → Deeper d (last_of b (fields_of e p ts))
+pub last_deeper : (d e p : ℕ) (ts : Trees) (b : Before) → d < e → Deeper d b → Deeper d (last_of b (fields_of e p ts))
 last_deeper d e p no_more b h k = k
 last_deeper d e p (leaf j c ts) b h k = last_deeper d e (p + 3 + length c) ts (after j e c) h (word_deeper d e (word_of j c) h)
 last_deeper d e p (group us ts) b h k =
@@ -71,27 +69,6 @@ last_deeper d e p (group us ts) b h k =
 
 -- ---- the lines of a list of fields
 
-seen-word : (d : ℕ) (r : WordIn) → previous (word_at d r) d ≡ seen_word r
+pub seen-word : (d : ℕ) (r : WordIn) → previous (word_at d r) d ≡ seen_word r
 seen-word d (WordIn.Word w) = rw (eq-eqb d d refl)
 seen-word d (WordIn.Refused f) = refl
-
--- The lines of the fields in the order of their tags are those of the lists.
-pub lines_by_groups : (d p : ℕ) (ts : Trees) (b : Before) → lines_of b (fields_of d p ts) ≡ lines_of_trees (previous b d) ts
-lines_by_groups d p no_more b = refl
-lines_by_groups d p (leaf k c ts) b =
-    ap (λ (x : List ℕ). line_after (previous b d) k c ++ x)
-    (lines_by_groups d (p + 3 + length c) ts (after k d c) ∙ ap (λ (q : Previous). lines_of_trees q ts) (seen-word d (word_of k c)))
-lines_by_groups d p (group us ts) b =
-    let inner : List Field = fields_of (suc d) (p + 3) us in
-    let rest : List Field = fields_of d (p + 3 + length (bytes_of us)) ts in
-    let unseen : previous (last_of Before.Nothing inner) d ≡ Previous.Other = not_seen d (last_of Before.Nothing inner) (last_deeper d (suc d) (p + 3) us Before.Nothing (omega arith) no_word) in
-    lines-append Before.Nothing inner rest
-    ∙ ap₂ (λ (x y : List ℕ). x ++ y) (lines_by_groups (suc d) (p + 3) us Before.Nothing)
-    (lines_by_groups d (p + 3 + length (bytes_of us)) ts (last_of Before.Nothing inner) ∙ ap (λ (q : Previous). lines_of_trees q ts) unseen)
-
--- The listing of a sheet that a list of fields writes: the list's lines, then the total.
-pub text_by_groups : (ts : Trees) → Allowed 1 ts → length (bytes_of ts) ≤ 32768
-    → text_of (bytes_of ts) ≡ lines_of_trees Previous.Other ts ++ total_line (words_in (fields_of 1 0 ts)) (refused_words_in (fields_of 1 0 ts))
-text_by_groups ts a h =
-    ap listing_of (sheet_written ts a h)
-    ∙ ap (λ (x : List ℕ). x ++ total_line (words_in (fields_of 1 0 ts)) (refused_words_in (fields_of 1 0 ts))) (lines_by_groups 1 0 ts Before.Nothing)

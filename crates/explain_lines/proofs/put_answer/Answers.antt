@@ -8,10 +8,10 @@ pub returns-clause-text : goal.returns-clause-text
 returns-clause-text c =
     let typed = c.read_line.ensures in
     let answer = c.put_typed_answer.ensures in
-    named answer.0 (answer_read c.args.number c.args.line.now typed)
+    named answer.text (answer_read c.args.number c.args.line.now typed)
 
 pub returns-clause-outcome : goal.returns-clause-outcome
 returns-clause-outcome c =
     let typed = c.read_line.ensures in
     let answer = c.put_typed_answer.ensures in
-    answer.1 ∙ outcome_read c.args.line.now typed
+    answer.outcome ∙ outcome_read c.args.line.now typed

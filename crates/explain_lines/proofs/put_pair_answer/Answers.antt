@@ -14,5 +14,5 @@ returns-clause-text c =
     let held = c.held_in.ensures in
     let figure = to_z-of_z {w = w64} {z = c.args.millionths} c.ranges.millionths in
     let answer = c.put_held-answered.ensures in named
-    (joined (joined (named c.put_pair-why.ensures (ap (pair_text c.args.word) figure)) (named answer.0 (ap₂ held_text held figure))) c.put_byte.ensures)
+    (joined (joined (named c.put_pair-why.ensures (ap (pair_text c.args.word) figure)) (named answer.text (ap₂ held_text held figure))) c.put_byte.ensures)
     (by_held c.args.word c.args.millionths)

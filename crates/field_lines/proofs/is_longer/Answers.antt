@@ -1,5 +1,5 @@
 -- By the length where it is measured, else by the limit (specs/Size.antt).
-use Rattle.field_lines.specs.Size.{never_longer}
+use Rattle.field_lines.proofs.Size.{never_longer}
 use Rattle.field_lines.proofs.is_longer.Goals as goal
 
 pub returns : goal.returns

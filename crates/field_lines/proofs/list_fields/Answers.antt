@@ -1,7 +1,7 @@
 -- The text is written only where it fits (listing/specs/BufferLemmas.antt).
 use mathlib.Core.Path.{sym, ◌∙◌}
 use Rattle.field_lines.specs.FieldLines.{text_of}
-use Rattle.field_lines.specs.Size.{text_counted}
+use Rattle.field_lines.proofs.Size.{text_counted}
 use Rattle.listing.specs.BufferLemmas.{stored}
 use Rattle.field_lines.proofs.list_fields.Goals as goal
 

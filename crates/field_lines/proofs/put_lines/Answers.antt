@@ -1,7 +1,8 @@
 -- Each turn writes a field's line; what is written and what is ahead stay the sheet's (specs/LoopLemmas.antt).
 use native.Mathlib.Omega.{arith}
 use Rattle.walk.proofs.Fold.{field_ends, fewer_left}
-use Rattle.field_lines.specs.LoopLemmas.{going_starts, going_on, at_end, with_refusal}
+use Rattle.field_lines.specs.LoopLemmas.{going_starts, going_on}
+use Rattle.field_lines.proofs.LoopLemmas.{at_end, with_refusal}
 use Rattle.field_lines.proofs.put_lines.Goals as goal
 
 pub loop-field-init : goal.loop-field-init

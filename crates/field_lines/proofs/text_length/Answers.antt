@@ -1,6 +1,6 @@
 -- The place behind the text is its length (specs/Size.antt).
 use Rattle.field_lines.specs.FieldLines.{text_of}
-use Rattle.field_lines.specs.Size.{text_counted}
+use Rattle.field_lines.proofs.Size.{text_counted}
 use Rattle.listing.specs.BufferLemmas.{length-counted}
 use Rattle.field_lines.proofs.text_length.Goals as goal
 

@@ -7,7 +7,8 @@ use Rattle.text.specs.Ascii.{ascii}
 use Rattle.field_texts.specs.Reading.{Printable}
 use Rattle.listing_laws.specs.Count.{line_ends}
 use Rattle.field_lines.specs.FieldLines.{line_of, fields_text, text_of}
-use Rattle.field_lines.specs.TheoremsLemmas.{shown, shown_printable, lines_ends}
+use Rattle.field_lines.specs.TheoremsLemmas.{shown}
+use Rattle.field_lines.proofs.TheoremsLemmas.{shown_printable, lines_ends}
 
 -- The line of a field is printable ASCII and a line end.
 pub line_printable : (f : Field) → (t : List ℕ) × Printable t × (line_of f ≡ t ++ ascii "\n")
