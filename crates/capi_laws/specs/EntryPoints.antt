@@ -1,7 +1,7 @@
 -- Demand 1 from C. Each function that C calls answers with the numbers of the definition that stands in its contract (crates/capi/src/lib.rt). Stated here is what they tell: the number in
 -- `refusal` is 0 exactly where the definition of the library's function accepts, else that of its refusal; beside a refusal all else is zero but an offset, and a buffer is as it was.
 -- Assumes nothing.
-use Rattle.std.specs.Prelude.{◌≡◌, refl, Bool, true, false, cond, List, [], ◌∷◌, ◌++◌, ◌↔◌, ℕ, zero, suc, ◌+◌, ◌<◌, ltb, ℤ, pos, length, get_or, drop}
+use Rattle.std.specs.Prelude.{◌≡◌, refl, Bool, true, false, cond, List, [], ◌∷◌, ◌++◌, ◌↔◌, ℕ, zero, suc, ◌<◌, ltb, ℤ, pos, length, get_or, drop}
 use Rattle.std.proofs.Common.{sym, ap, subst, ◌∙◌, arith}
 use Rattle.refusals.specs.Numbers.{number_of, refusal_of}
 use Rattle.refusals.proofs.Numbers.{refusal_of-number, number-bounds}

@@ -1,5 +1,6 @@
 // The answers to the lines of a text, into a buffer, and the progress that they make.
 #![tactic(auto)]
+
 ghost use Rattle.std.specs.Prelude.{◌≡◌};
 ghost use Rattle.text.specs.Writing.{Writes};
 ghost use Rattle.answers.specs.Answers.{answer_text, outcome_of};

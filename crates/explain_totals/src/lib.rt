@@ -1,5 +1,6 @@
 // The line of totals, into a buffer: what fits is stored and all is counted, as in the crate `text`.
 #![tactic(auto)]
+
 ghost use Rattle.text.specs.Writing.{Writes};
 ghost use Rattle.line_answers.specs.LineAnswers.{counts_text, totals_text};
 

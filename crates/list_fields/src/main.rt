@@ -1,5 +1,6 @@
 // Lists the fields of the sheet that standard input holds, a line for each, to standard output.
 #![tactic(auto)]
+
 ghost use Rattle.std.specs.Prelude.{◌≡◌, take};
 ghost use Rattle.io.specs.Counts.{IsPrefixLen};
 ghost use Rattle.field_lines.specs.FieldLines.{text_of};

@@ -7,12 +7,10 @@ use Rattle.walk.specs.declared.Walk.{Walk}
 use Rattle.walk.specs.declared.FieldAt.{FieldAt}
 use Rattle.walk.specs.declared.Given.{Given}
 use Rattle.walk.specs.declared.WalkStep.{WalkStep}
-use Rattle.walk.specs.Step.{start_walk}
-use Rattle.walk.specs.Step.{step_of}
+use Rattle.walk.specs.Step.{start_walk, step_of}
 use Rattle.walk.specs.Rest.{field_of}
 use Rattle.walk.specs.Fold.{Loop, Few, few_starts}
-use Rattle.walk.proofs.Fold.{loop_starts}
-use Rattle.walk.proofs.Fold.{loop_goes, few_goes}
+use Rattle.walk.proofs.Fold.{loop_starts, loop_goes, few_goes}
 use Rattle.text.specs.Writing.{last, Writes, empty}
 use Rattle.text.proofs.Writing.{joined}
 use Rattle.totals.specs.Totals.{words_in, refused_words_in}

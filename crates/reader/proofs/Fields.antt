@@ -7,8 +7,7 @@ use Rattle.walk.specs.declared.Walk.{Walk}
 use Rattle.walk.specs.declared.FieldAt.{FieldAt}
 use Rattle.walk.specs.declared.Given.{Given}
 use Rattle.walk.specs.declared.WalkStep.{WalkStep}
-use Rattle.walk.specs.Step.{start_walk, walk_of}
-use Rattle.walk.specs.Step.{step_of}
+use Rattle.walk.specs.Step.{start_walk, walk_of, step_of}
 use Rattle.walk.specs.Stands.{Stands}
 use Rattle.walk.proofs.Stands.{start_stands}
 use Rattle.walk.specs.Walked.{after, stays}

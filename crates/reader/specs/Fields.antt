@@ -6,8 +6,7 @@ use Rattle.fields.specs.Run.{Field, Scan, Fields, Refused}
 use Rattle.walk.specs.declared.Walk.{Walk}
 use Rattle.walk.specs.declared.Given.{Given}
 use Rattle.walk.specs.Step.{step_of}
-use Rattle.walk.specs.Walked.{given_of}
-use Rattle.walk.specs.Walked.{after}
+use Rattle.walk.specs.Walked.{given_of, after}
 
 -- whether a step gave a field
 abbrev pub is_field : Given → Bool

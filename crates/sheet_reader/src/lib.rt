@@ -3,8 +3,7 @@
 
 ghost use Rattle.std.specs.Prelude.{◌≡◌};
 ghost use Rattle.fields.specs.Run.{sheet_of};
-ghost use Rattle.walk.specs.Step.{start_walk};
-ghost use Rattle.walk.specs.Step.{step_of};
+ghost use Rattle.walk.specs.Step.{start_walk, step_of};
 ghost use Rattle.walk.specs.Walked.{after as afterSteps};
 ghost use Rattle.reader.specs.Fields.{is_field, field_at};
 

@@ -1,6 +1,7 @@
 // Lists each sheet of the test data and compares the listing, byte for byte, with the text that stands beside it. The
 // folder `flight` holds the example; in `faulty` each text has one byte changed or missing.
 #![tactic(auto)]
+
 use listing::Listed;
 use standard_input::Input;
 use std::fs::File;

@@ -1,5 +1,4 @@
 -- Each turn answers a line and goes over to what stands behind it (proofs/Going.antt).
-use Prim.Native.Nat.{◌-◌}
 use Rattle.explain_texts.proofs.Going.{going_on, less_left, rest_within}
 use Rattle.explain_texts.proofs.explain_text.Goals as goal
 

@@ -1,7 +1,6 @@
 -- The walk goes on until the note, the end or the refusal decides (`Search`); each step leaves fewer bytes.
 use Rattle.std.proofs.Common.{sym, ap, ◌∙◌, arith}
-use Rattle.walk.proofs.Fold.{loop_starts}
-use Rattle.walk.proofs.Fold.{loop_ends, loop_refused, fewer_left}
+use Rattle.walk.proofs.Fold.{loop_starts, loop_ends, loop_refused, fewer_left}
 use Rattle.notes.specs.Note.{found_of}
 use Rattle.note_finder.proofs.Search.{seek_fits, seek_found, seek_on}
 use Rattle.note_finder.proofs.find_note.Goals as goal

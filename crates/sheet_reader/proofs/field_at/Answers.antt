@@ -4,8 +4,7 @@ use Rattle.std.specs.Borrow.{Bor}
 use Rattle.fields.specs.Run.{sheet_of}
 use Rattle.walk.specs.declared.Walk.{Walk}
 use Rattle.walk.specs.declared.Given.{Given}
-use Rattle.walk.specs.Step.{start_walk}
-use Rattle.walk.specs.Step.{step_of}
+use Rattle.walk.specs.Step.{start_walk, step_of}
 use Rattle.walk.specs.Walked.{after}
 use Rattle.reader.specs.declared.Reader.{Reader}
 use Rattle.reader.specs.Fields.{field_at}
