@@ -5,6 +5,7 @@ use Rattle.std.proofs.Math.Path.{ap, subst}
 use Rattle.std.proofs.Common.{◌∙◌, le-leb, leb-true}
 use Prim.Native.Nat.{ℕ, ◌^◌, ◌<◌}
 use native.Mathlib.Omega.{arith}
+use Rattle.bits.specs.Fields.{bits}
 use Rattle.bits.specs.Parity.{parity_lt}
 use Rattle.records.specs.Kinds.{kind_of}
 use Rattle.records.specs.declared.Record.{Record}
