@@ -4,7 +4,7 @@
 VERSION = 0.1.0
 PREFIX = /usr/local
 PROGRAMS = list list_fields list_labels explain summary
-# While crates are out of the tree, the tests of the library and of the programs are left out.
+# While crates are out of the tree, the tests of the library and of the programs are left out, and those on test vectors, which stand in such crates.
 LEFT := $(wildcard PORTING-LEFT.md)
 
 # Lists the example sheet.
@@ -25,7 +25,7 @@ endif
 	@grep -q '^rt: ok; ' target/ci.log || { echo 'test: rt ci does not say that all is well' >&2; exit 1; }
 	@! grep -E '^rt: ok; .*, [1-9][0-9]* bad\b' target/ci.log >&2 || { echo 'test: a wrong program of must-fail/ cannot be tried as it stands' >&2; exit 1; }
 ifdef LEFT
-	@$(MAKE) --no-print-directory test-model
+	cd bindings/model && cargo test --offline --quiet --test document --test properties
 else
 	@$(MAKE) --no-print-directory gathered test-model test-c test-rust
 	tests/programs/run
