@@ -1,2 +1,0 @@
-pub mod Agreement
-pub mod Agreeing

@@ -1,4 +1,0 @@
-pub mod Explanations
-pub mod Statements
-pub mod Theorems
-mod Examples

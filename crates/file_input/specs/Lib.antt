@@ -1,2 +1,0 @@
--- A file that is named, in a buffer. Assumes nothing.
-pub mod Once

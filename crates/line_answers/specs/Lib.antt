@@ -1,4 +1,0 @@
-pub mod LineAnswers
-pub mod AnswerLaws
-pub mod Pieces
-pub mod Lengths

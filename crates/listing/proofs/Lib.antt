@@ -1,3 +1,0 @@
-pub mod BufferLemmas
-pub mod LoopLemmas
-pub mod Size

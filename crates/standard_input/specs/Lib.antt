@@ -1,2 +1,0 @@
--- Standard input in a buffer. Assumes nothing.
-pub mod Input

@@ -1,4 +1,0 @@
-pub mod WordLines
-pub mod Lengths
-pub mod Theorems
-pub mod Examples

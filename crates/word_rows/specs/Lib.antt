@@ -1,4 +1,0 @@
-pub mod Rows
-pub mod RowLemmas
-pub mod Asking
-pub mod AskingLaws
