@@ -4,8 +4,6 @@
 VERSION = 0.1.0
 PREFIX = /usr/local
 PROGRAMS = list list_fields list_labels explain summary
-# While crates are out of the tree, the tests of the library and of the programs are left out, and those on test vectors, which stand in such crates.
-LEFT := $(wildcard PORTING-LEFT.md)
 
 # Lists the example sheet.
 demo: programs
@@ -16,21 +14,15 @@ demo: programs
 # rt ci passes an edit that no longer applies: here that fails. The programs that are tested are those that rt ci has built and run.
 test: SHELL := /bin/bash
 test:
-ifndef LEFT
 	tests/repository/run
 	cmp examples/flight.sheet crates/test_sheets/data/flight/0000.bin
 	cmp examples/flight.txt crates/test_sheets/data/flight/0000.txt
-endif
 	@set -o pipefail; mkdir -p target && rt ci 2>&1 | tee target/ci.log
 	@grep -q '^rt: ok; ' target/ci.log || { echo 'test: rt ci does not say that all is well' >&2; exit 1; }
 	@! grep -E '^rt: ok; .*, [1-9][0-9]* bad\b' target/ci.log >&2 || { echo 'test: a wrong program of must-fail/ cannot be tried as it stands' >&2; exit 1; }
-ifdef LEFT
-	cd bindings/model && cargo test --offline --quiet --test document --test properties
-else
 	@$(MAKE) --no-print-directory gathered test-model test-c test-rust
 	tests/programs/run
 	tests/install/run
-endif
 	@tail -n 1 target/ci.log
 
 # The daily loop: what has changed is proved again, the programs and the C and Rust tests are run; no wrong program is tried, and the layout is not looked at.

@@ -4,7 +4,7 @@
 use refusals::Refusal;
 
 // The content of a word field.
-#[derive(Drop)]
+#[derive(Clone, Copy)]
 pub enum WordIn {
     Word(u32),
     // Number 11: it has not 4 bytes.
@@ -12,7 +12,7 @@ pub enum WordIn {
 }
 
 // The content of a figure field: the label and the millionths.
-#[derive(Drop)]
+#[derive(Clone, Copy)]
 pub enum FigureIn {
     Figure(u8, i64),
     // Number 11: it has not 9 bytes.

@@ -86,6 +86,7 @@ const ROWS: [Row; 15] = [
 ];
 
 // The row at a place, from 0 to 14, and the first one at any other: the one function that reads the table.
+#[tactic(auto, using(crate::proofs::Rows::row_within, crate::proofs::Rows::row_past), unfolding(labels::specs::Table::row_of))]
 pub fn row_at(place: usize) -> Row
     ensures { result ≡ row_of (kind_at place) }
 {

@@ -58,7 +58,7 @@ module _ (s : Scale) (circular : Circular s) where
       )
 
 module _ (s : Scale) (k : Sound s) (circular : Circular s) (figure : ℤ) where
-  -- the coded (count s k circular figure) is the (rounded s k circular figure) one, moved by whole turns
+  -- the coded count is the rounded one, moved by whole turns
   abbrev back : ℤ
   back = (wrapped_turns s circular (negative s k circular figure) (count s k circular figure)).0
 
@@ -84,7 +84,7 @@ module _ (s : Scale) (k : Sound s) (circular : Circular s) (figure : ℤ) where
   pub circle_coded : (c : ℤ) → (answer s k circular figure) ≡ Count c → Closest true s figure c
   circle_coded = (answered s k circular figure) (Closest true s figure) closest
 
-  -- where a figure is half a step from no (count s k circular figure), the coded (count s k circular figure) is alone nearest
+  -- where a figure is half a step from no count, the coded count is alone nearest
   alone : ((c : ℤ) → 2 * gap s figure c ≢ s.numerator) → Farther true s figure (coded-count s k circular figure)
   alone never other l ne d e p q = go (le-or-lt e d)
     where
@@ -104,7 +104,7 @@ module _ (s : Scale) (k : Sound s) (circular : Circular s) (figure : ℤ) where
   pub circle_untied : ((c : ℤ) → 2 * gap s figure c ≢ s.numerator) → (c : ℤ) → (answer s k circular figure) ≡ Count c → Farther true s figure c
   circle_untied never = (answered s k circular figure) (Farther true s figure) (alone never)
 
-  -- a legal (count s k circular figure) that lies less than half a step, and at most half a millionth, away is the coded one
+  -- a legal count that lies less than half a step, and at most half a millionth, away is the coded one
   pub circle_alone : (c : ℤ) → LegalCount s c → 2 * gap s figure c < s.numerator → 2 * gap s figure c ≤ s.denominator → (answer s k circular figure) ≡ Count c
   circle_alone c l near fine =
       circle_within s (negative s k circular figure) (nat_abs figure) (half_turn (negative s k circular figure) size)

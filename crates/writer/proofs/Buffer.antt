@@ -30,7 +30,7 @@ module _ (out : List ℕ) (place : ℕ) (k : FieldKind) (c : List ℕ) (end : �
       let d : length (drop end out) ≡ length out - end = length-drop end out in
       ap length is_after ∙ length-append (take place out ++ field_bytes k c) (drop end out) ∙ omega (arith, (bounds out place k c end done).space, (bounds out place k c end done).at)
 
-  -- a byte before the field or (after out place k c end done) it is as it stood
+  -- a byte before the field or after it is as it stood
   pub outside : (i : ℕ) → (i < place) ⊎ (end ≤ i) → get_or (write_of out place k c).buffer i 0 ≡ get_or out i 0
   outside i (inl h) =
       let f : length (take place out ++ field_bytes k c) ≡ end = (front_length out place k c end done) in
@@ -49,7 +49,7 @@ module _ (out : List ℕ) (place : ℕ) (k : FieldKind) (c : List ℕ) (end : �
       ∙ get_or-drop end out j 0
       ∙ ap (λ (n : ℕ). get_or out n 0) (omega arith)
 
-  -- the content stands (after out place k c end done) the header's three bytes
+  -- the content stands after the header's three bytes
   pub content_stands : take (length c) (drop (place + 3) (write_of out place k c).buffer) ≡ c
   content_stands =
       ap (λ (l : List ℕ). take (length c) (drop (place + 3) l)) (is_after ∙ append_assoc (take place out) (field_bytes k c) (drop end out))

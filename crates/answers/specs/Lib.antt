@@ -1,0 +1,4 @@
+pub mod Answers
+pub mod Held
+pub mod Lengths
+pub mod Examples

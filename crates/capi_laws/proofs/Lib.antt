@@ -1,0 +1,2 @@
+pub mod EntryPoints
+pub mod Summaries

@@ -1,0 +1,4 @@
+pub mod Explanations
+pub mod Statements
+pub mod Theorems
+mod Examples

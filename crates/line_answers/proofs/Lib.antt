@@ -1,0 +1,3 @@
+pub mod AnswerLaws
+pub mod Lengths
+pub mod Pieces

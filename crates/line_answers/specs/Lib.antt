@@ -1,0 +1,4 @@
+pub mod LineAnswers
+pub mod AnswerLaws
+pub mod Pieces
+pub mod Lengths

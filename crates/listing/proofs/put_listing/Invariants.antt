@@ -1,0 +1,10 @@
+-- Each turn writes a field's line and counts it; what is written and what is ahead stay the sheet's (specs/LoopLemmas.antt).
+use Rattle.walk.specs.Stands.{left}
+use Rattle.listing.specs.LoopLemmas.{Going}
+use Rattle.listing.proofs.put_listing.Given as goal
+
+abbrev pub invariant-loop-field : goal.invariant-loop-field
+invariant-loop-field l = Going l.sheet l.initial.out l.out l.walk l.progress
+
+abbrev pub decreases-loop-field : goal.decreases-loop-field
+decreases-loop-field l = left l.sheet l.walk

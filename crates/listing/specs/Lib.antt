@@ -1,0 +1,8 @@
+-- The listing of a sheet. Assumes nothing.
+pub mod Listing
+pub mod Size
+pub mod Turn
+pub mod TurnLemmas
+pub mod LoopLemmas
+pub mod BufferLemmas
+pub mod WholeLemmas

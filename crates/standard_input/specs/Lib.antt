@@ -1,0 +1,2 @@
+-- Standard input in a buffer. Assumes nothing.
+pub mod Input

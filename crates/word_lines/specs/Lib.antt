@@ -1,0 +1,4 @@
+pub mod WordLines
+pub mod Lengths
+pub mod Theorems
+pub mod Examples

@@ -1,0 +1,4 @@
+pub mod Rows
+pub mod RowLemmas
+pub mod Asking
+pub mod AskingLaws
