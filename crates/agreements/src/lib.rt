@@ -5,17 +5,15 @@ ghost use Rattle.std.specs.Prelude.{◌≡◌};
 ghost use Rattle.quantities.specs.Nearest.{nearest_count};
 ghost use Rattle.agreements.specs.Agreement.{is_nearest, holds_nearest, agrees_of};
 
-use decode::Decoded;
-use measurements::Measurement;
-use quantities::{Nearest, Quantity};
+use quantities::Quantity;
 
 // Whether a count is the nearest one.
-fn is_nearest(nearest: Nearest, count: i16) -> bool
+fn is_nearest(nearest: Option<i16>, count: i16) -> bool
     ensures { result ≡ is_nearest nearest count }
 {
     match nearest {
-        Nearest::Count(other) => count == other,
-        Nearest::OutOfReach => false,
+        Some(other) => count == other,
+        None => false,
     }
 }
 
@@ -27,12 +25,12 @@ pub fn count_agrees(quantity: Quantity, count: i16, millionths: i64) -> bool
 }
 
 // Whether a count is measured, and it is the one nearest to a figure.
-fn holds_nearest(measurement: Measurement, millionths: i64) -> bool
+fn holds_nearest(measurement: Option<(Quantity, i16)>, millionths: i64) -> bool
     ensures { result ≡ holds_nearest measurement millionths }
 {
     match measurement {
-        Measurement::Count(quantity, count) => count_agrees(quantity, count, millionths),
-        Measurement::Nothing => false,
+        Some((quantity, count)) => count_agrees(quantity, count, millionths),
+        None => false,
     }
 }
 
@@ -41,10 +39,10 @@ pub fn agrees(word: u32, millionths: i64) -> bool
     ensures { result ≡ agrees_of word millionths }
 {
     match decoder::decode(word) {
-        Decoded::Accepted(record) => {
+        Ok(record) => {
             let body = record.body;
             holds_nearest(measurements::measurement_of(body), millionths)
         }
-        Decoded::Refused(_) => false,
+        Err(_) => false,
     }
 }

@@ -1,15 +1,16 @@
 -- What is answered to a typed line of a word and a figure, byte by byte, and what the line is counted as.
 -- Assumes nothing.
-use Rattle.std.specs.Prelude.{◌≡◌, cond, List, [], ◌++◌, ℕ, eqb, ℤ, pos}
+use Rattle.std.specs.Prelude.{◌≡◌, cond, List, [], ◌++◌, ℕ, eqb, ℤ, pos, Option, Some, None, Result, Ok, Err}
 use Rattle.std.proofs.Common.{ap}
 use Rattle.refusals.specs.Numbers.{number_of}
 use Rattle.labels.proofs.Assignment.{document01}
 use Rattle.quantities.specs.Nearest.{millionths_of}
-use Rattle.measurements.specs.declared.Measurement.{Measurement}
+use Rattle.quantities.specs.declared.Quantity.{Quantity}
+use Rattle.reasons.specs.declared.Reason.{Reason}
+use Rattle.refusals.specs.declared.Refusal.{Refusal}
 use Rattle.agreements.specs.Agreement.{word_measurement}
 use Rattle.reasons.specs.Reasons.{number_of as reasonNumber}
 use Rattle.explanations.specs.Explanations.{explained_of}
-use Rattle.explanations.specs.declared.Explained.{Explained}
 use Rattle.reason_texts.specs.ReasonTexts.{because_text}
 use Rattle.text.specs.Ascii.{ascii}
 use Rattle.hex_texts.specs.HexTexts.{word_text}
@@ -19,14 +20,14 @@ use Rattle.typed_pairs.specs.declared.TypedLine.{TypedLine}
 use Rattle.answers.specs.declared.Outcome.{Outcome}
 
 -- why, or the refusal's number
-abbrev pub explained_text : Explained → ℤ → List ℕ
-explained_text (Explained.Because r) figure = because_text r figure
-explained_text (Explained.Refused f) figure = ascii "refused " ++ decimal (number_of f)
+abbrev pub explained_text : Result Reason Refusal → ℤ → List ℕ
+explained_text (Ok r) figure = because_text r figure
+explained_text (Err f) figure = ascii "refused " ++ decimal (number_of f)
 
 -- the figure that a count is printed as, in millionths (none is shown where nothing is measured)
-abbrev pub figure_for : Measurement → ℤ
-figure_for (Measurement.Count q c) = millionths_of q c
-figure_for Measurement.Nothing = pos 0
+abbrev pub figure_for : Option (Quantity × ℤ) → ℤ
+figure_for (Some (q, c)) = millionths_of q c
+figure_for None = pos 0
 
 -- a word and a figure as they are written again
 abbrev pub pair_text : ℕ → ℤ → List ℕ
@@ -50,9 +51,9 @@ unfoldable pub answer_text : ℕ → List ℕ → List ℕ
 answer_text number line = typed_answer number (line_of line)
 
 -- what an answer is counted as
-abbrev pub explained_outcome : Explained → Outcome
-explained_outcome (Explained.Because r) = cond (eqb (reasonNumber r) 1) Outcome.Agrees Outcome.Disagrees
-explained_outcome (Explained.Refused f) = Outcome.Refused
+abbrev pub explained_outcome : Result Reason Refusal → Outcome
+explained_outcome (Ok r) = cond (eqb (reasonNumber r) 1) Outcome.Agrees Outcome.Disagrees
+explained_outcome (Err f) = Outcome.Refused
 
 abbrev pub typed_outcome : TypedLine → Outcome
 typed_outcome TypedLine.Passed = Outcome.Passed

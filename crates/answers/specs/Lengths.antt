@@ -1,6 +1,6 @@
 -- How long an answer is at most, so that a buffer can be given that holds the answers to many lines.
 -- Assumes nothing.
-use Rattle.std.specs.Prelude.{◌≡◌, refl, Bool, true, false, cond, ◌++◌, ℕ, ◌+◌, ◌/◌, ◌^◌, ◌≤◌, ◌<◌, eqb, ℤ, nat_abs, length}
+use Rattle.std.specs.Prelude.{◌≡◌, refl, Bool, true, false, cond, ◌++◌, ℕ, ◌+◌, ◌/◌, ◌^◌, ◌≤◌, ◌<◌, eqb, ℤ, nat_abs, length, Option, Some, None, Result, Ok, Err}
 use Rattle.std.proofs.Common.{mod-lt, arith, lit<, length-append}
 use Rattle.std.proofs.Math.Path.{subst⁻¹}
 use Rattle.std.specs.Int.Signed.{nat_abs-le}
@@ -12,19 +12,17 @@ use Rattle.refusals.proofs.Numbers.{number-bounds}
 use Rattle.labels.proofs.Assignment.{document01}
 use Rattle.labels.specs.Label.{label_of}
 use Rattle.decode.specs.Decode.{decode_of}
-use Rattle.decode.specs.declared.Decoded.{Decoded}
+use Rattle.records.specs.declared.Record.{Record}
+use Rattle.refusals.specs.declared.Refusal.{Refusal}
 use Rattle.quantities.specs.Sizes.{printed-size}
 use Rattle.quantities.specs.declared.Quantity.{Quantity}
-use Rattle.measurements.specs.declared.Measurement.{Measurement}
 use Rattle.figures.specs.Coding.{quantity_at}
 use Rattle.figures.specs.Demand.{count_bits}
-use Rattle.figures.specs.declared.Measured.{Measured}
 use Rattle.agreements.specs.Agreement.{decoded_measurement, word_measurement}
 use Rattle.agreements.specs.Agreeing.{held, accepted-held}
 use Rattle.signed_numbers.specs.Signed.{Fits, greatest}
 use Rattle.reasons.specs.Reasons.{number_of as reasonNumber}
 use Rattle.reasons.specs.declared.Reason.{Reason}
-use Rattle.explanations.specs.declared.Explained.{Explained}
 use Rattle.text.specs.Ascii.{ascii}
 use Rattle.numerals.specs.Digits.{signed_fixed}
 use Rattle.numerals.specs.Theorems.{decimal-length, signed-length}
@@ -56,16 +54,16 @@ count-size Quantity.MlsAzimuth w = sixteen w
 count-size Quantity.MlsGlide w = sixteen w
 
 -- and what it is printed as
-figure_size : (m : Measured) (w : ℕ) → nat_abs (figure_for (held m w)) ≤ 2 ^ 42 + 1
-figure_size (Measured.As q) w = printed-size q (count_bits q w) (count-size q w)
-figure_size Measured.Nothing w = omega arith
+figure_size : (m : Option Quantity) (w : ℕ) → nat_abs (figure_for (held m w)) ≤ 2 ^ 42 + 1
+figure_size (Some q) w = printed-size q (count_bits q w) (count-size q w)
+figure_size None w = omega arith
 
 pub word_figure_size : (w : ℕ) → nat_abs (figure_for (word_measurement document01 w)) ≤ 2 ^ 42 + 1
 word_figure_size w = go (decode_of w) refl
   where
-    go : (d : Decoded) → decode_of w ≡ d → nat_abs (figure_for (decoded_measurement d)) ≤ 2 ^ 42 + 1
-    go (Decoded.Accepted r) e = subst⁻¹ (λ (m : Measurement). nat_abs (figure_for m) ≤ 2 ^ 42 + 1) (accepted-held document01 w r e) (figure_size (quantity_at document01 (label_of w)) w)
-    go (Decoded.Refused f) e = omega arith
+    go : (d : Result Record Refusal) → decode_of w ≡ d → nat_abs (figure_for (decoded_measurement d)) ≤ 2 ^ 42 + 1
+    go (Ok r) e = subst⁻¹ (λ (m : Option (Quantity × ℤ)). nat_abs (figure_for m) ≤ 2 ^ 42 + 1) (accepted-held document01 w r e) (figure_size (quantity_at document01 (label_of w)) w)
+    go (Err f) e = omega arith
 
 -- ---- answers
 
@@ -87,9 +85,9 @@ because_length r z h = go (eqb (reasonNumber r) 1)
     go true = omega (arith, reason_length r)
     go false = simp length-append (omega (arith, reason_length r, h))
 
-pub explained_length : (x : Explained) (z : ℤ) → length (signed_fixed 6 z) ≤ 15 → length (explained_text x z) ≤ 57
-explained_length (Explained.Because r) z h = because_length r z h
-explained_length (Explained.Refused f) z h = simp length-append (omega (arith, decimal-length 1 (number_of f) (omega (arith, (number-bounds f).1))))
+pub explained_length : (x : Result Reason Refusal) (z : ℤ) → length (signed_fixed 6 z) ≤ 15 → length (explained_text x z) ≤ 57
+explained_length (Ok r) z h = because_length r z h
+explained_length (Err f) z h = simp length-append (omega (arith, decimal-length 1 (number_of f) (omega (arith, (number-bounds f).1))))
 
 pub unread_length : (n : ℕ) → n < 2 ^ 64 → length (unread_answer n) ≤ 47
 unread_length n h = simp length-append (omega (arith, decimal-length 19 n (omega arith)))

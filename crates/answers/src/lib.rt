@@ -2,7 +2,7 @@
 #![tactic(auto)]
 
 // What a line is counted as.
-#[derive(Clone, Copy)]
+#[derive(Clone, Copy, PartialEq, Eq, Debug)]
 pub enum Outcome {
     Agrees,
     Disagrees,

@@ -1,7 +1,7 @@
 // Parity and two's complement of a 32-bit word. Bit k of a word weighs 2^(k-1).
 #![tactic(auto)]
 
-ghost use Rattle.std.specs.Prelude.{◌≡◌, ◌<◌};
+ghost use Rattle.std.specs.Prelude.{◌≡◌, ◌-◌, ◌^◌, ◌<◌, min};
 ghost use Rattle.bits.specs.Fields.{bits};
 ghost use Rattle.bits.specs.Parity.{odd, parity_bit};
 ghost use Rattle.bits.specs.Complement.{signed, complement};
@@ -21,46 +21,29 @@ pub fn parity_bit(value: u32) -> u32
     1 - u32::count_ones(value) % 2
 }
 
-// The signed number in bits 17 to 29.
-pub fn signed_17_29(word: u32) -> i16
-    ensures { result ≡ signed 13 (bits 17 29 word) }
+// The signed number in the WIDTH bits up to bit 29. A width above 16 is taken as 16.
+pub fn signed_field<const WIDTH: u32>(word: u32) -> i16
+    ensures { result ≡ signed (min WIDTH 16) (bits (30 - min WIDTH 16) 29 word) }
 {
-    let digits = word / 65536 % 8192;
-    if digits < 4096 {
+    let width = WIDTH.min(16);
+    let whole = 1u32 << width;
+    let digits = (word >> (29 - width)) % whole;
+    if digits * 2 < whole {
         digits as i16
     } else {
-        !((8191 - digits) as i16)
+        !((whole - 1 - digits) as i16)
     }
 }
 
-// The signed number in bits 14 to 29.
-pub fn signed_14_29(word: u32) -> i16
-    ensures { result ≡ signed 16 (bits 14 29 word) }
+// The WIDTH lowest binary digits of `count`. A width above 16 is taken as 16.
+pub fn complement<const WIDTH: u32>(count: i16) -> u32
+    ensures value { result ≡ complement (min WIDTH 16) count }
+    ensures upper_bound { result < 2 ^ min WIDTH 16 }
 {
-    let digits = word / 8192 % 65536;
-    if digits < 32768 {
-        digits as i16
-    } else {
-        !((65535 - digits) as i16)
-    }
-}
-
-// The 16 binary digits of `count`.
-pub fn complement_16(count: i16) -> u32
-    ensures value { result ≡ complement 16 count }
-    ensures upper_bound { result < 65536 }
-{
+    let whole = 1u32 << WIDTH.min(16);
     if count < 0 {
-        65535 - (!count) as u32 % 65536
+        whole - 1 - (!count) as u32 % whole
     } else {
-        count as u32 % 65536
+        count as u32 % whole
     }
-}
-
-// The 13 lowest binary digits of `count`.
-pub fn complement_13(count: i16) -> u32
-    ensures value { result ≡ complement 13 count }
-    ensures upper_bound { result < 8192 }
-{
-    complement_16(count) % 8192
 }

@@ -17,14 +17,14 @@ fn upper_narrow(status: Status, first: u32, count: i16) -> u32
     requires { first < 8 }
     ensures { result ≡ (binary_code status * 8192 + complement 13 count) * 64 + first }
 {
-    (statuses::binary_code(status) * 8192 + bits::complement_13(count)) * 64 + first
+    (statuses::binary_code(status) * 8192 + bits::complement::<13>(count)) * 64 + first
 }
 
 // Bits 11 to 31 of a word with a count of 16 bits.
 fn upper_wide(status: Status, inhibit: bool, clearance: bool, count: i16) -> u32
     ensures { result ≡ ((binary_code status * 65536 + complement 16 count) * 4 + flag_bit clearance) * 2 + flag_bit inhibit }
 {
-    let deviation = statuses::binary_code(status) * 65536 + bits::complement_16(count);
+    let deviation = statuses::binary_code(status) * 65536 + bits::complement::<16>(count);
     (deviation * 4 + codes::flag_bit(clearance)) * 2 + codes::flag_bit(inhibit)
 }
 

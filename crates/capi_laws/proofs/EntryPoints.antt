@@ -1,7 +1,7 @@
 -- Demand 1 from C. Each function that C calls answers with the numbers of the definition that stands in its contract (crates/capi/src/lib.rt). Stated here is what they tell: the number in
 -- `refusal` is 0 exactly where the definition of the library's function accepts, else that of its refusal; beside a refusal all else is zero but an offset, and a buffer is as it was.
 -- Assumes nothing.
-use Rattle.std.specs.Prelude.{refl, Bool, true, false, cond, ℤ}
+use Rattle.std.specs.Prelude.{refl, Bool, true, false, cond, ℤ, Option, Some, None}
 use Rattle.std.proofs.Common.{sym, ap, subst, ◌∙◌}
 use Rattle.refusals.specs.Numbers.{number_of}
 use Rattle.refusals.specs.declared.Refusal.{Refusal}
@@ -14,7 +14,7 @@ use Rattle.flat_explanations.proofs.Explained.{reason_tells}
 use Rattle.chart.specs.Words.{chart_point}
 use Rattle.quantities.specs.Nearest.{millionths_of}
 use Rattle.figures.specs.Coding.{quantity_at, coded_of}
-use Rattle.figures.specs.declared.Measured.{Measured}
+use Rattle.quantities.specs.declared.Quantity.{Quantity}
 use Rattle.reassembly.specs.Step.{take_word}
 use Rattle.fields.specs.Run.{Scan, Fields, Refused, sheet_of, inside_of}
 use Rattle.walk.specs.Step.{walk_of}
@@ -40,9 +40,9 @@ use Rattle.capi_laws.specs.Summaries.{zeros-told}
 use Rattle.capi_laws.proofs.Summaries.{summary_told}
 use Rattle.capi_laws.specs.EntryPoints.{of_encoded, of_count, of_scan, WordTells, MillionthsTell, WalkTells, FieldTells, EntryPoints, when_accepted, when_refused, decode_tells, page_tells, reading_tells, word_tells, point_tells, explained_tells, step_tells, check_tells, field_tells, note_tells, word_in_tells, figure_in_tells, written_tells, listed_tells, summarized_tells, written-kept, group_kept, page_kept, listed_kept, accepts, refuses}
 
-count_tells : (m : Measured) (c : ℤ) → MillionthsTell (of_count m c) (printed_measured m c)
-count_tells Measured.Nothing c = when_refused _ _ (λ f p. refl) Refusal.Label 0
-count_tells (Measured.As q) c = by (holds q c)
+count_tells : (m : Option Quantity) (c : ℤ) → MillionthsTell (of_count m c) (printed_measured m c)
+count_tells None c = when_refused _ _ (λ f p. refl) Refusal.Label 0
+count_tells (Some q) c = by (holds q c)
   where
     figure : FlatMillionths
     figure = record { refusal = 0; millionths = millionths_of q c }

@@ -1,6 +1,6 @@
 -- The summary that its numbers tell, beside the deviation that words of the label measure: without a ready word it has no range and no mean.
 -- Assumes nothing.
-use Rattle.std.specs.Prelude.{◌≡◌, Bool, true, false, cond, List, ℕ, eqb, leb, length}
+use Rattle.std.specs.Prelude.{◌≡◌, Bool, true, false, cond, List, ℕ, eqb, leb, length, Option, Some, None}
 use Rattle.std.proofs.Common.{sym, ap, subst, ◌∙◌, arith}
 use Rattle.refusals.specs.declared.Refusal.{Refusal}
 use Rattle.fields.specs.Run.{Scan, Fields, Refused}
@@ -8,9 +8,7 @@ use Rattle.summaries.specs.Words.{sheet_words}
 use Rattle.summaries.specs.Summaries.{ready_counts, range_of, mean_of, summary_of, class_of, deviation_at, summarized_in, summarized_as, summarized_of}
 use Rattle.summaries.proofs.Counting.{ready_counts_lem}
 use Rattle.summaries.specs.declared.Class.{Class}
-use Rattle.summaries.specs.declared.Deviating.{Deviating}
 use Rattle.summaries.specs.declared.Deviation.{Deviation}
-use Rattle.summaries.specs.declared.Extremes.{Extremes}
 use Rattle.summaries.specs.declared.Range.{Range}
 use Rattle.summaries.specs.declared.Summarized.{Summarized}
 use Rattle.summaries.specs.declared.Summary.{Summary}
@@ -31,7 +29,7 @@ module _ (d : Deviation) (classes : ℕ → Class) (ws : List ℕ) where
         refused = s.refused;
         other = s.other;
         words = s.words;
-        range = (ap (λ (k : ℕ). range_of d (cond (eqb k 0) Extremes.Nothing (Extremes.Counts (least_in r) (greatest_in r)))) n ∙ range_back d (ready_counts classes ws)) i;
+        range = (ap (λ (k : ℕ). range_of d (cond (eqb k 0) None (Some (least_in r, greatest_in r)))) n ∙ range_back d (ready_counts classes ws)) i;
         sum = s.sum;
         mean = mean_of s.sum (n i);
       })
@@ -46,8 +44,8 @@ module _ (label source : ℕ) where
   within d false sheet x e = let z : ◌≡◌ {A = ℕ} 0 1 = cc in absurd (omega arith)
 
   -- The numbers tell all of a summary.
-  pub summary_told : (sheet : Scan) (d : Deviation) (x : Summary) → deviation_at label ≡ Deviating.As d → summarized_of label source sheet ≡ Summarized.Summary x
+  pub summary_told : (sheet : Scan) (d : Deviation) (x : Summary) → deviation_at label ≡ Some d → summarized_of label source sheet ≡ Summarized.Summary x
       → x ≡ summary_in d (flat_summarized (summarized_of label source sheet))
   summary_told sheet d x known e =
-      within d (leb source 3) sheet x (ap (λ (v : Deviating). summarized_as v label source sheet) (sym known) ∙ e)
+      within d (leb source 3) sheet x (ap (λ (v : Option Deviation). summarized_as v label source sheet) (sym known) ∙ e)
       ∙ ap (λ (y : Summarized). summary_in d (flat_summarized y)) (sym e)

@@ -1,35 +1,30 @@
 -- Demand 1 from C. Each function that C calls answers with the numbers of the definition that stands in its contract (crates/capi/src/lib.rt). Stated here is what they tell: the number in
 -- `refusal` is 0 exactly where the definition of the library's function accepts, else that of its refusal; beside a refusal all else is zero but an offset, and a buffer is as it was.
 -- Assumes nothing.
-use Rattle.std.specs.Prelude.{◌≡◌, refl, Bool, true, false, cond, List, [], ◌∷◌, ◌++◌, ◌↔◌, ℕ, zero, suc, ◌<◌, ltb, ℤ, pos, length, get_or, drop}
+use Rattle.std.specs.Prelude.{◌≡◌, refl, Bool, true, false, cond, List, [], ◌∷◌, ◌++◌, ◌↔◌, ℕ, zero, suc, ◌<◌, ltb, ℤ, pos, length, get_or, drop, Option, Some, None, Result, Ok, Err}
 use Rattle.std.proofs.Common.{sym, ap, ◌∙◌, arith}
 use Rattle.refusals.specs.Numbers.{number_of, refusal_of}
 use Rattle.refusals.proofs.Numbers.{refusal_of-number, number-bounds}
-use Rattle.refusals.specs.declared.Numbered.{Numbered}
+use Rattle.chart.specs.declared.ChartPoint.{ChartPoint}
+use Rattle.quantities.specs.declared.Quantity.{Quantity}
 use Rattle.refusals.specs.declared.Refusal.{Refusal}
 use Rattle.records.specs.declared.Record.{Record}
 use Rattle.views.specs.declared.Setting.{Setting}
 use Rattle.labels.proofs.Assignment.{document01}
 use Rattle.decode.specs.Decode.{decode_of}
-use Rattle.decode.specs.declared.Decoded.{Decoded}
 use Rattle.pages.specs.Page.{page_when, is_short, page_of}
 use Rattle.pages.specs.Statements.{Fits}
-use Rattle.pages.specs.declared.Filled.{Filled}
 use Rattle.encode.specs.Encode.{encode_of}
-use Rattle.encode.specs.declared.Encoded.{Encoded}
 use Rattle.readings.specs.Readings.{reading_of}
 use Rattle.readings.specs.declared.Reading.{Reading}
 use Rattle.readings.specs.declared.Shown.{Shown}
 use Rattle.reasons.specs.Reasons.{number_of as reasonNumber}
 use Rattle.reasons.specs.declared.Reason.{Reason}
 use Rattle.explanations.specs.Explanations.{explained_of}
-use Rattle.explanations.specs.declared.Explained.{Explained}
 use Rattle.flat_explanations.specs.Explained.{flat_explained}
 use Rattle.flat_explanations.specs.declared.FlatExplained.{FlatExplained}
 use Rattle.chart.specs.Words.{chart_point}
-use Rattle.chart.specs.declared.Charted.{Charted}
 use Rattle.figures.specs.Coding.{quantity_at, coded_of}
-use Rattle.figures.specs.declared.Measured.{Measured}
 use Rattle.reassembly.specs.Step.{take_word}
 use Rattle.reassembly.specs.declared.WordAnswer.{WordAnswer}
 use Rattle.fields.specs.Run.{Field, Scan, Fields, Refused, sheet_of}
@@ -40,15 +35,10 @@ use Rattle.walk.specs.Step.{start_walk}
 use Rattle.reader.specs.Fields.{field_in, field_at}
 use Rattle.notes.specs.Note.{NoteText, Text, NoText, note_of}
 use Rattle.contents.specs.Contents.{word_in, figure_in}
-use Rattle.contents.specs.declared.FigureIn.{FigureIn}
-use Rattle.contents.specs.declared.WordIn.{WordIn}
 use Rattle.writer.specs.Write.{answer_of, unless_refused, write_of, group_of}
 use Rattle.writer.specs.Write as write
-use Rattle.writer.specs.declared.Written.{Written}
 use Rattle.listing.specs.Listing.{text_of, listed_of, buffer_of}
-use Rattle.listing.specs.declared.Listed.{Listed}
 use Rattle.summaries.specs.Summaries.{deviation_at, summarized_of}
-use Rattle.summaries.specs.declared.Deviating.{Deviating}
 use Rattle.summaries.specs.declared.Deviation.{Deviation}
 use Rattle.summaries.specs.declared.Summarized.{Summarized}
 use Rattle.summaries.specs.declared.Summary.{Summary}
@@ -106,30 +96,30 @@ Untouched (refuses f offset) before after = after ≡ before
 
 -- ---- what the library's definitions say
 
-abbrev pub of_decoded : Decoded → Said
-of_decoded (Decoded.Accepted r) = accepts
-of_decoded (Decoded.Refused f) = refuses f 0
+abbrev pub of_decoded : Result Record Refusal → Said
+of_decoded (Ok r) = accepts
+of_decoded (Err f) = refuses f 0
 
-abbrev pub of_filled : Filled → Said
-of_filled Filled.Whole = accepts
-of_filled (Filled.Refused f) = refuses f 0
+abbrev pub of_filled : Result Unit Refusal → Said
+of_filled (Ok tt) = accepts
+of_filled (Err f) = refuses f 0
 
-abbrev pub of_encoded : Encoded → Said
-of_encoded (Encoded.Word w) = accepts
-of_encoded (Encoded.Refused f) = refuses f 0
+abbrev pub of_encoded : Result ℕ Refusal → Said
+of_encoded (Ok w) = accepts
+of_encoded (Err f) = refuses f 0
 
-abbrev pub of_charted : Charted → Said
-of_charted (Charted.Point p) = accepts
-of_charted (Charted.Refused f) = refuses f 0
+abbrev pub of_charted : Result ChartPoint Refusal → Said
+of_charted (Ok p) = accepts
+of_charted (Err f) = refuses f 0
 
-abbrev pub of_explained : Explained → Said
-of_explained (Explained.Because r) = accepts
-of_explained (Explained.Refused f) = refuses f 0
+abbrev pub of_explained : Result Reason Refusal → Said
+of_explained (Ok r) = accepts
+of_explained (Err f) = refuses f 0
 
 -- a count is printed: 2 where the label measures nothing, 6 where its bits do not hold the count
-abbrev pub of_count : Measured → ℤ → Said
-of_count (Measured.As q) c = cond (holds q c) accepts (refuses Refusal.Value 0)
-of_count Measured.Nothing c = refuses Refusal.Label 0
+abbrev pub of_count : Option Quantity → ℤ → Said
+of_count (Some q) c = cond (holds q c) accepts (refuses Refusal.Value 0)
+of_count None c = refuses Refusal.Label 0
 
 abbrev pub of_answer : WordAnswer → Said
 of_answer WordAnswer.Incomplete = accepts
@@ -144,21 +134,21 @@ abbrev pub of_note : NoteText → Said
 of_note (Text t) = accepts
 of_note (NoText f p) = refuses f p
 
-abbrev pub of_word_in : WordIn → Said
-of_word_in (WordIn.Word w) = accepts
-of_word_in (WordIn.Refused f) = refuses f 0
+abbrev pub of_word_in : Result ℕ Refusal → Said
+of_word_in (Ok w) = accepts
+of_word_in (Err f) = refuses f 0
 
-abbrev pub of_figure_in : FigureIn → Said
-of_figure_in (FigureIn.Figure l m) = accepts
-of_figure_in (FigureIn.Refused f) = refuses f 0
+abbrev pub of_figure_in : Result (ℕ × ℤ) Refusal → Said
+of_figure_in (Ok (l, m)) = accepts
+of_figure_in (Err f) = refuses f 0
 
-abbrev pub of_written : Written → Said
-of_written (Written.End end) = accepts
-of_written (Written.Refused f p) = refuses f p
+abbrev pub of_written : Result ℕ (Refusal × ℕ) → Said
+of_written (Ok end) = accepts
+of_written (Err (f, p)) = refuses f p
 
-abbrev pub of_listed : Listed → Said
-of_listed (Listed.Length n) = accepts
-of_listed (Listed.Refused f) = refuses f 0
+abbrev pub of_listed : Result ℕ Refusal → Said
+of_listed (Ok n) = accepts
+of_listed (Err f) = refuses f 0
 
 abbrev pub of_summarized : Summarized → Said
 of_summarized (Summarized.Summary s) = accepts
@@ -232,7 +222,7 @@ pub record EntryPoints : Type 0 where
       (get_or x.refusals i 0 ≡ (flat_of (decode_of (get_or words i 0))).refusal) × (get_or x.counts i (pos 0) ≡ (flat_of (decode_of (get_or words i 0))).count)
   -- lampcygnet_encode: on any numbers, and on those of any record
   pub encode : (f : FlatRecord) → WordTells (of_encoded (encoded (record_from f))) (encode_flat f)
-  pub encode_record : (r : Record) → Bounded r.body → WordTells (of_encoded (encode_of r)) (encode_flat (flat_of (Decoded.Accepted r)))
+  pub encode_record : (r : Record) → Bounded r.body → WordTells (of_encoded (encode_of r)) (encode_flat (flat_of (Ok r)))
   -- lampcygnet_chart_point
   pub chart : (course glide : ℕ) → PointTells (of_charted (chart_point course glide)) (flat_point (chart_point course glide))
   -- lampcygnet_code_figure, lampcygnet_print_count; lampcygnet_agrees refuses nothing, and its contract says all
@@ -240,7 +230,7 @@ pub record EntryPoints : Type 0 where
   pub count : (label : ℕ) (c : ℤ) → MillionthsTell (of_count (quantity_at document01 label) c) (printed_of label c)
   -- lampcygnet_explain: the reason's number beside 0, or 0 beside the refusal's
   pub explained : (w : ℕ) (millionths : ℤ) → ReasonTells (of_explained (explained_of w millionths)) (flat_explained (explained_of w millionths))
-  pub reason : (w : ℕ) (millionths : ℤ) (r : Reason) → (explained_of w millionths ≡ Explained.Because r) ↔ ((flat_explained (explained_of w millionths)).reason ≡ reasonNumber r)
+  pub reason : (w : ℕ) (millionths : ℤ) (r : Reason) → (explained_of w millionths ≡ Ok r) ↔ ((flat_explained (explained_of w millionths)).reason ≡ reasonNumber r)
   -- lampcygnet_reassemble
   pub part : (held : Partial) (w : ℕ) → StepTells (partial_of (take_word (held_by held) w).next.group_c) (of_answer (take_word (held_by held) w).answer) (reassembled held w)
   -- lampcygnet_check_sheet, lampcygnet_walk_from_start, and lampcygnet_next_field after any number of steps from there
@@ -264,7 +254,7 @@ pub record EntryPoints : Type 0 where
   pub listed_untouched : (s out : List ℕ) → Untouched (of_listed (listed_of (text_of s) out)) out (buffer_of (text_of s) out)
   -- lampcygnet_summarize: the refusal; beside the label all of a summary; and zeros where no word is ready
   pub summarized : (label source : ℕ) (s : List ℕ) → let x = summarized_of label source (sheet_of s) in SummaryTells (of_summarized x) (flat_summarized x)
-  pub summary : (label source : ℕ) (s : List ℕ) (d : Deviation) (x : Summary) → deviation_at label ≡ Deviating.As d → summarized_of label source (sheet_of s) ≡ Summarized.Summary x
+  pub summary : (label source : ℕ) (s : List ℕ) (d : Deviation) (x : Summary) → deviation_at label ≡ Some d → summarized_of label source (sheet_of s) ≡ Summarized.Summary x
       → x ≡ summary_in d (flat_summarized (summarized_of label source (sheet_of s)))
   pub none_ready : (label source : ℕ) (s : List ℕ) → ZeroWhereNoneReady (flat_summarized (summarized_of label source (sheet_of s)))
 
@@ -277,7 +267,7 @@ no_number : (f : Refusal) → 0 ≡ number_of f → ⊥
 no_number f e = omega (arith, (number-bounds f).0)
 
 same_refusal : (f g : Refusal) → number_of f ≡ number_of g → f ≡ g
-same_refusal f g e = let z : Numbered.Refusal f ≡ Numbered.Refusal g = sym (refusal_of-number f) ∙ ap refusal_of e ∙ refusal_of-number g in cc
+same_refusal f g e = let z : Some f ≡ Some g = sym (refusal_of-number f) ∙ ap refusal_of e ∙ refusal_of-number g in cc
 
 module _ {N : Type 0} (number : N → ℕ) (beside : Refusal → ℕ → N) (numbered : (f : Refusal) (p : ℕ) → number (beside f p) ≡ number_of f) where
   pub when_accepted : (told : N) → number told ≡ 0 → Tells number beside accepts told
@@ -302,13 +292,13 @@ module _ {N : Type 0} (number : N → ℕ) (beside : Refusal → ℕ → N) (num
 
 -- ---- each definition
 
-pub decode_tells : (d : Decoded) → RecordTells (of_decoded d) (flat_of d)
-decode_tells (Decoded.Accepted r) = when_accepted _ _ (λ f p. refl) (flat_of (Decoded.Accepted r)) (accepted-number r)
-decode_tells (Decoded.Refused f) = when_refused _ _ (λ f p. refl) f 0
+pub decode_tells : (d : Result Record Refusal) → RecordTells (of_decoded d) (flat_of d)
+decode_tells (Ok r) = when_accepted _ _ (λ f p. refl) (flat_of (Ok r)) (accepted-number r)
+decode_tells (Err f) = when_refused _ _ (λ f p. refl) f 0
 
-pub page_tells : (x : Filled) → NumberTells (of_filled x) (flat_filled x)
-page_tells Filled.Whole = when_accepted _ _ (λ f p. refl) 0 refl
-page_tells (Filled.Refused f) = when_refused _ _ (λ f p. refl) f 0
+pub page_tells : (x : Result Unit Refusal) → NumberTells (of_filled x) (flat_filled x)
+page_tells (Ok tt) = when_accepted _ _ (λ f p. refl) 0 refl
+page_tells (Err f) = when_refused _ _ (λ f p. refl) f 0
 
 reading_0 : (n : ℕ) (r : Reading) → (flat_reading n r).refusal ≡ 0
 reading_0 n (Reading.Degrees x) = refl
@@ -324,21 +314,21 @@ shown_0 (Shown.Ready r) = reading_0 1 r
 shown_0 (Shown.Test r) = reading_0 2 r
 shown_0 Shown.Absent = refl
 
-pub reading_tells : (d : Decoded) → ReadingTells (of_decoded d) (flat_read d)
-reading_tells (Decoded.Accepted r) = when_accepted _ _ (λ f p. refl) (flat_shown (reading_of r.body)) (shown_0 (reading_of r.body))
-reading_tells (Decoded.Refused f) = when_refused _ _ (λ f p. refl) f 0
+pub reading_tells : (d : Result Record Refusal) → ReadingTells (of_decoded d) (flat_read d)
+reading_tells (Ok r) = when_accepted _ _ (λ f p. refl) (flat_shown (reading_of r.body)) (shown_0 (reading_of r.body))
+reading_tells (Err f) = when_refused _ _ (λ f p. refl) f 0
 
-pub word_tells : (x : Encoded) → WordTells (of_encoded x) (flat_word x)
-word_tells (Encoded.Word w) = when_accepted _ _ (λ f p. refl) (flat_word (Encoded.Word w)) refl
-word_tells (Encoded.Refused f) = when_refused _ _ (λ f p. refl) f 0
+pub word_tells : (x : Result ℕ Refusal) → WordTells (of_encoded x) (flat_word x)
+word_tells (Ok w) = when_accepted _ _ (λ f p. refl) (flat_word (Ok w)) refl
+word_tells (Err f) = when_refused _ _ (λ f p. refl) f 0
 
-pub point_tells : (x : Charted) → PointTells (of_charted x) (flat_point x)
-point_tells (Charted.Point p) = when_accepted _ _ (λ f p. refl) (flat_point (Charted.Point p)) refl
-point_tells (Charted.Refused f) = when_refused _ _ (λ f p. refl) f 0
+pub point_tells : (x : Result ChartPoint Refusal) → PointTells (of_charted x) (flat_point x)
+point_tells (Ok p) = when_accepted _ _ (λ f p. refl) (flat_point (Ok p)) refl
+point_tells (Err f) = when_refused _ _ (λ f p. refl) f 0
 
-pub explained_tells : (x : Explained) → ReasonTells (of_explained x) (flat_explained x)
-explained_tells (Explained.Because r) = when_accepted _ _ (λ f p. refl) (flat_explained (Explained.Because r)) refl
-explained_tells (Explained.Refused f) = when_refused _ _ (λ f p. refl) f 0
+pub explained_tells : (x : Result Reason Refusal) → ReasonTells (of_explained x) (flat_explained x)
+explained_tells (Ok r) = when_accepted _ _ (λ f p. refl) (flat_explained (Ok r)) refl
+explained_tells (Err f) = when_refused _ _ (λ f p. refl) f 0
 
 pub step_tells : (next : Partial) (a : WordAnswer) → StepTells next (of_answer a) (step_with next (answered a))
 step_tells next WordAnswer.Incomplete = when_accepted _ _ (λ f p. refl) (step_with next (answered WordAnswer.Incomplete)) refl
@@ -362,21 +352,21 @@ pub note_tells : (place : ℕ) (t : NoteText) → NoteTells (of_note t) (flat_no
 note_tells place (Text t) = when_accepted _ _ (λ f p. refl) (flat_note place (Text t)) refl
 note_tells place (NoText f p) = when_refused _ _ (λ f p. refl) f p
 
-pub word_in_tells : (x : WordIn) → WordTells (of_word_in x) (flat_word_in x)
-word_in_tells (WordIn.Word w) = when_accepted _ _ (λ f p. refl) (flat_word_in (WordIn.Word w)) refl
-word_in_tells (WordIn.Refused f) = when_refused _ _ (λ f p. refl) f 0
+pub word_in_tells : (x : Result ℕ Refusal) → WordTells (of_word_in x) (flat_word_in x)
+word_in_tells (Ok w) = when_accepted _ _ (λ f p. refl) (flat_word_in (Ok w)) refl
+word_in_tells (Err f) = when_refused _ _ (λ f p. refl) f 0
 
-pub figure_in_tells : (x : FigureIn) → FigureTells (of_figure_in x) (flat_figure_in x)
-figure_in_tells (FigureIn.Figure l m) = when_accepted _ _ (λ f p. refl) (flat_figure_in (FigureIn.Figure l m)) refl
-figure_in_tells (FigureIn.Refused f) = when_refused _ _ (λ f p. refl) f 0
+pub figure_in_tells : (x : Result (ℕ × ℤ) Refusal) → FigureTells (of_figure_in x) (flat_figure_in x)
+figure_in_tells (Ok (l, m)) = when_accepted _ _ (λ f p. refl) (flat_figure_in (Ok (l, m))) refl
+figure_in_tells (Err f) = when_refused _ _ (λ f p. refl) f 0
 
-pub written_tells : (x : Written) → PlaceTells (of_written x) (flat_written x)
-written_tells (Written.End end) = when_accepted _ _ (λ f p. refl) (flat_written (Written.End end)) refl
-written_tells (Written.Refused f p) = when_refused _ _ (λ f p. refl) f p
+pub written_tells : (x : Result ℕ (Refusal × ℕ)) → PlaceTells (of_written x) (flat_written x)
+written_tells (Ok end) = when_accepted _ _ (λ f p. refl) (flat_written (Ok end)) refl
+written_tells (Err (f, p)) = when_refused _ _ (λ f p. refl) f p
 
-pub listed_tells : (x : Listed) → LengthTells (of_listed x) (flat_listed x)
-listed_tells (Listed.Length n) = when_accepted _ _ (λ f p. refl) (flat_listed (Listed.Length n)) refl
-listed_tells (Listed.Refused f) = when_refused _ _ (λ f p. refl) f 0
+pub listed_tells : (x : Result ℕ Refusal) → LengthTells (of_listed x) (flat_listed x)
+listed_tells (Ok n) = when_accepted _ _ (λ f p. refl) (flat_listed (Ok n)) refl
+listed_tells (Err f) = when_refused _ _ (λ f p. refl) f 0
 
 pub summarized_tells : (x : Summarized) → SummaryTells (of_summarized x) (flat_summarized x)
 summarized_tells (Summarized.Summary s) = when_accepted _ _ (λ f p. refl) (flat_summarized (Summarized.Summary s)) refl
@@ -385,9 +375,9 @@ summarized_tells (Summarized.SheetRefused f p) = when_refused _ _ (λ f p. refl)
 
 -- ---- buffers
 
-answer_untouched : (x : Written) (out : List ℕ) (place : ℕ) (bytes : List ℕ) → Untouched (of_written x) out (write.buffer_of x out place bytes)
-answer_untouched (Written.End end) out place bytes = tt
-answer_untouched (Written.Refused f p) out place bytes = refl
+answer_untouched : (x : Result ℕ (Refusal × ℕ)) (out : List ℕ) (place : ℕ) (bytes : List ℕ) → Untouched (of_written x) out (write.buffer_of x out place bytes)
+answer_untouched (Ok end) out place bytes = tt
+answer_untouched (Err (f, p)) out place bytes = refl
 
 pub written-kept : (out : List ℕ) (place : ℕ) (k : FieldKind) (c : List ℕ) → Untouched (of_written (write_of out place k c).answer) out (write_of out place k c).buffer
 written-kept out place k c = answer_untouched (answer_of (length out) place (length c)) out place (field_bytes k c)
@@ -409,6 +399,6 @@ page_kept words refusals counts = by (is_short words refusals counts)
 pub listed_kept : (text out : List ℕ) → Untouched (of_listed (listed_of text out)) out (buffer_of text out)
 listed_kept text out = by (ltb (length out) (length text))
   where
-    by : (b : Bool) → Untouched (of_listed (cond b (Listed.Refused Refusal.Room) (Listed.Length (length text)))) out (cond b out (text ++ drop (length text) out))
+    by : (b : Bool) → Untouched (of_listed (cond b (Err Refusal.Room) (Ok (length text)))) out (cond b out (text ++ drop (length text) out))
     by true = refl
     by false = tt

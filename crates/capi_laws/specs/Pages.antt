@@ -1,10 +1,11 @@
 -- What the lists of a page tell beside the numbers of the single call: element i has the refusal and the count that lampcygnet_decode gives of word i.
 -- Assumes nothing.
-use Rattle.std.specs.Prelude.{◌≡◌, refl, List, ℕ, ◌<◌, ℤ, pos, length, get_or}
+use Rattle.std.specs.Prelude.{◌≡◌, refl, List, ℕ, ◌<◌, ℤ, pos, length, get_or, Result, Ok, Err}
 use Rattle.std.proofs.Common.{sym, ◌∙◌}
 use Rattle.records.specs.declared.Body.{Body}
 use Rattle.decode.specs.Decode.{decode_of}
-use Rattle.decode.specs.declared.Decoded.{Decoded}
+use Rattle.records.specs.declared.Record.{Record}
+use Rattle.refusals.specs.declared.Refusal.{Refusal}
 use Rattle.measurements.specs.Measurements.{measurement_of}
 use Rattle.pages.specs.Page.{refusal_in, count_in, count_of, page_of}
 use Rattle.pages.specs.Statements.{Fits}
@@ -30,13 +31,13 @@ count-among n s (Body.Part2 content) = refl
 count-among n s (Body.Part3 content) = refl
 count-among n s (Body.Part4 good content) = refl
 
-single_refusal : (d : Decoded) → (flat_of d).refusal ≡ refusal_in d
-single_refusal (Decoded.Accepted r) = accepted-number r
-single_refusal (Decoded.Refused f) = refl
+single_refusal : (d : Result Record Refusal) → (flat_of d).refusal ≡ refusal_in d
+single_refusal (Ok r) = accepted-number r
+single_refusal (Err f) = refl
 
-single_count : (d : Decoded) → (flat_of d).count ≡ count_of d
-single_count (Decoded.Accepted r) = count-among _ r.source r.body
-single_count (Decoded.Refused f) = refl
+single_count : (d : Result Record Refusal) → (flat_of d).count ≡ count_of d
+single_count (Ok r) = count-among _ r.source r.body
+single_count (Err f) = refl
 
 pub element_told : (words refusals : List ℕ) (counts : List ℤ) → Fits words refusals counts → (i : ℕ) → i < length words
     → (get_or (page_of words refusals counts).refusals i 0 ≡ (flat_of (decode_of (get_or words i 0))).refusal)

@@ -2,7 +2,7 @@
 #![tactic(auto)]
 
 ghost use Rattle.std.specs.Prelude.{◌≡◌};
-ghost use Rattle.channels.specs.Channels.{is_ils, is_vor, is_mls, is_channel, is_read, must_be_channel, legal_frequency};
+ghost use Rattle.channels.specs.Channels.{is_ils, is_vor, is_mls, is_channel, must_be_channel, legal_frequency};
 
 use frequencies::Band;
 use statuses::Status;
@@ -40,25 +40,12 @@ fn is_channel(band: Band, frequency: u32) -> bool
     }
 }
 
-// Whether a frequency is read under a status.
-fn is_read(status: Status) -> bool
-    ensures { result ≡ is_read status }
-{
-    match status {
-        Status::Failure => false,
-        Status::NoData => false,
-        Status::Test => true,
-        Status::Ready => true,
-    }
-}
-
-// Whether a frequency must be a channel of its band: in MLS words always.
+// Whether a frequency must be a channel of its band: in MLS words always, else where it is read.
 fn must_be_channel(band: Band, status: Status) -> bool
     ensures { result ≡ must_be_channel band status }
 {
     match band {
-        Band::Vor => is_read(status),
-        Band::Ils => is_read(status),
+        Band::Vor | Band::Ils => matches!(status, Status::Test | Status::Ready),
         Band::Mls => true,
     }
 }

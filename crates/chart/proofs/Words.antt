@@ -1,6 +1,6 @@
 -- The chart point of two words, and what document 01 says of it in terms of the words' own bits.
 -- Assumes nothing.
-use Rattle.std.specs.Prelude.{◌≡◌, refl, [], ◌∷◌, ◌↔◌, ℕ}
+use Rattle.std.specs.Prelude.{◌≡◌, refl, [], ◌∷◌, ◌↔◌, ℕ, Result, Ok, Err}
 use Rattle.std.proofs.Common.{sym, ap₂, ◌∙◌, subst}
 use Rattle.std.proofs.Math.Path.{subst⁻¹}
 use Rattle.bits.specs.Fields.{bits}
@@ -13,7 +13,6 @@ use Rattle.refusals.proofs.Order.{kept-first, broken_first}
 use Rattle.refusals.specs.declared.Refusal.{Refusal}
 use Rattle.labels.specs.Label.{label_of}
 use Rattle.decode.specs.Decode.{decode_of}
-use Rattle.decode.specs.declared.Decoded.{Decoded}
 use Rattle.readings.specs.Readings.{course_reading, glide_reading, reading_of}
 use Rattle.readings.specs.Meaning.{HasReading, IsReading, CountFits}
 use Rattle.readings.specs.declared.Reading.{Reading}
@@ -47,14 +46,14 @@ records_follow w v a b d e =
 pub word_order : (first second : ℕ) → Follows charted (word_rules first second) (chart_point first second)
 word_order w v = go (decode_of w) (decode_of v) refl refl
   where
-    go : (d e : Decoded) → decode_of w ≡ d → decode_of v ≡ e → Follows charted (word_rules w v) (chart_decoded d e)
-    go (Decoded.Accepted a) (Decoded.Accepted b) p q =
+    go : (d e : Result Record Refusal) → decode_of w ≡ d → decode_of v ≡ e → Follows charted (word_rules w v) (chart_decoded d e)
+    go (Ok a) (Ok b) p q =
         kept-first charted (accepted w) _ _ (a, p) (λ f h. clash (decode_of w) f a h p)
         (kept-first charted (accepted v) _ _ (b, q) (λ f h. clash (decode_of v) f b h q) (records_follow w v a b (read w a p) (read v b q)))
-    go (Decoded.Accepted a) (Decoded.Refused f) p q =
+    go (Ok a) (Err f) p q =
         kept-first charted (accepted w) _ _ (a, p) (λ g h. clash (decode_of w) g a h p)
         (broken_first charted (accepted v) _ f (λ k. clash (decode_of v) f k.0 q k.1) q (λ g h. same_refusal (decode_of v) f g q h))
-    go (Decoded.Refused f) e p q = broken_first charted (accepted w) _ f (λ k. clash (decode_of w) f k.0 p k.1) p (λ g h. same_refusal (decode_of w) f g p h)
+    go (Err f) e p q = broken_first charted (accepted w) _ f (λ k. clash (decode_of w) f k.0 p k.1) p (λ g h. same_refusal (decode_of w) f g p h)
 
 pub point_of-words : (first second : ℕ) → PointOfWords first second (chart_point first second)
 point_of-words w v p e =

@@ -1,6 +1,6 @@
 -- What document 01 says of a chart point of two records: which refusal comes first, and what its doubles are.
 -- Assumes nothing.
-use Rattle.std.specs.Prelude.{◌≡◌, refl, Bool, true, false, cond, ◌&&◌, ◌||◌, List, [], ◌∷◌, ◌⊎◌, ◌↔◌, ℕ, eqb, Float}
+use Rattle.std.specs.Prelude.{◌≡◌, refl, Bool, true, false, cond, ◌&&◌, ◌||◌, List, [], ◌∷◌, ◌⊎◌, ◌↔◌, ℕ, eqb, Float, Option, Some, None, Result, Ok, Err}
 use Rattle.std.proofs.Common.{sym, ap, ap₂, ◌∙◌, inl, inr, arith, eqb-true, eq-eqb}
 use Rattle.std.proofs.Math.Path.{subst⁻¹}
 use Rattle.std.proofs.lemmas.Bool.{false≢true}
@@ -24,21 +24,19 @@ use Rattle.readings.specs.declared.Reading.{Reading}
 use Rattle.readings.specs.declared.Shown.{Shown}
 use Rattle.chart.specs.Chart.{is_kind, are_course_and_glide, difference_in, difference_of, joined, chart_of}
 use Rattle.chart.specs.declared.ChartPoint.{ChartPoint}
-use Rattle.chart.specs.declared.Charted.{Charted}
-use Rattle.chart.specs.declared.Difference.{Difference}
 
 -- what is refused is no point
-pub never : (f : Refusal) (p : ChartPoint) → Charted.Refused f ≡ Charted.Point p → ⊥
+pub never : (f : Refusal) (p : ChartPoint) → Err f ≡ Ok p → ⊥
 never f p e = let z : ◌≡◌ {A = ℕ} 0 1 = cc in omega arith
 
-pub one_refusal : (f g : Refusal) → Charted.Refused f ≡ Charted.Refused g → f ≡ g
+pub one_refusal : (f g : Refusal) → ◌≡◌ {A = Result ChartPoint Refusal} (Err f) (Err g) → f ≡ g
 one_refusal f g e = cc
 
 -- an answer is a refusal or a point
-abbrev pub charted : Answers Refusal Charted
+abbrev pub charted : Answers Refusal (Result ChartPoint Refusal)
 charted = record {
-  refuse = Charted.Refused;
-  accepts = λ answer. (p : ChartPoint) × (answer ≡ Charted.Point p);
+  refuse = Err;
+  accepts = λ answer. (p : ChartPoint) × (answer ≡ Ok p);
   apart = λ f h. never f h.0 h.1;
   once = one_refusal;
 }
@@ -53,9 +51,9 @@ record_rules first second =
     ∷ []
 
 -- A point's doubles are the readings of the two records.
-abbrev pub PointOf : Record → Record → Charted → Type 0
+abbrev pub PointOf : Record → Record → Result ChartPoint Refusal → Type 0
 PointOf first second answer =
-    (p : ChartPoint) → answer ≡ Charted.Point p
+    (p : ChartPoint) → answer ≡ Ok p
     → IsReading first.body (Reading.DepthDifference p.course) × IsReading second.body (Reading.DepthDifference p.glide)
 
 -- ---- kinds of one place are one kind
@@ -69,7 +67,7 @@ kind_same j k e = eq-eqb (place_of j) (place_of k) (ap place_of e)
 -- ---- a course and a glide have a depth difference exactly when they have a reading
 
 abbrev Told : Shown → Type 0
-Told shown = (HasReading shown × ((x : Float) × (difference_of shown ≡ Difference.Of x))) ⊎ ((HasReading shown → ⊥) × (difference_of shown ≡ Difference.Absent))
+Told shown = (HasReading shown × ((x : Float) × (difference_of shown ≡ Some x))) ⊎ ((HasReading shown → ⊥) × (difference_of shown ≡ None))
 
 told_under : (s : Status) (x : Float) → Told (shown_under s (Reading.DepthDifference x))
 told_under Status.Failure x = inr (λ h. h, refl)
@@ -103,16 +101,16 @@ told_glide b e = told b (ap (λ (k : Kind). is_kind k Kind.IlsCourse || is_kind 
 abbrev BothRead : Shown → Shown → Rule Refusal
 BothRead x y = asks (HasReading x × HasReading y) Refusal.Reach
 
-one_missing : (x y : Shown) → (HasReading x × HasReading y → ⊥) → Follows charted (BothRead x y ∷ []) (Charted.Refused Refusal.Reach)
+one_missing : (x y : Shown) → (HasReading x × HasReading y → ⊥) → Follows charted (BothRead x y ∷ []) (Err Refusal.Reach)
 one_missing x y n = broken_one charted (HasReading x × HasReading y) Refusal.Reach [] n
 
 joined_follows : (x y : Shown) → Told x → Told y → Follows charted (BothRead x y ∷ []) (joined (difference_of x) (difference_of y))
 joined_follows x y (inl h) (inl k) =
     let both : HasReading x × HasReading y = (h.0, k.0) in
     subst⁻¹ (Follows charted (BothRead x y ∷ [])) (ap₂ joined h.1.1 k.1.1)
-    (kept-one charted (HasReading x × HasReading y) Refusal.Reach [] _ both (no_rules charted (Charted.Point (record { course = h.1.0; glide = k.1.0 })) (record { course = h.1.0; glide = k.1.0 }, refl)))
+    (kept-one charted (HasReading x × HasReading y) Refusal.Reach [] _ both (no_rules charted (Ok (record { course = h.1.0; glide = k.1.0 })) (record { course = h.1.0; glide = k.1.0 }, refl)))
 joined_follows x y (inl h) (inr k) = subst⁻¹ (Follows charted (BothRead x y ∷ [])) (ap₂ joined h.1.1 k.1) (one_missing x y (λ m. k.0 m.1))
-joined_follows x y (inr h) k = subst⁻¹ (Follows charted (BothRead x y ∷ [])) (ap (λ (d : Difference). joined d (difference_of y)) h.1) (one_missing x y (λ m. h.0 m.0))
+joined_follows x y (inr h) k = subst⁻¹ (Follows charted (BothRead x y ∷ [])) (ap (λ (d : Option Float). joined d (difference_of y)) h.1) (one_missing x y (λ m. h.0 m.0))
 
 -- ---- the order of the refusals, and when a point is given
 
@@ -134,39 +132,39 @@ chart_follows first second K S R kinds sources readings =
 
 -- ---- the doubles of a point
 
-difference_in_lem : (reading : Reading) (x : Float) → difference_in reading ≡ Difference.Of x → reading ≡ Reading.DepthDifference x
+difference_in_lem : (reading : Reading) (x : Float) → difference_in reading ≡ Some x → reading ≡ Reading.DepthDifference x
 difference_in_lem (Reading.Degrees y) x e = cc
 difference_in_lem (Reading.DepthDifference y) x e = cc
 difference_in_lem (Reading.Millivolts y) x e = cc
 difference_in_lem (Reading.Frequency f) x e = cc
 difference_in_lem (Reading.Setting s) x e = cc
 
-difference_shown : (shown : Shown) (x : Float) → difference_of shown ≡ Difference.Of x → Holds shown (Reading.DepthDifference x)
+difference_shown : (shown : Shown) (x : Float) → difference_of shown ≡ Some x → Holds shown (Reading.DepthDifference x)
 difference_shown (Shown.Ready reading) x e = difference_in_lem reading x e
 difference_shown (Shown.Test reading) x e = difference_in_lem reading x e
 difference_shown Shown.Absent x e = let z : ◌≡◌ {A = ℕ} 0 1 = cc in omega arith
 
 -- a difference is the reading of this body
-abbrev pub DifferenceOf : Body → Difference → Type 0
-DifferenceOf body d = (x : Float) → d ≡ Difference.Of x → IsReading body (Reading.DepthDifference x)
+abbrev pub DifferenceOf : Body → Option Float → Type 0
+DifferenceOf body d = (x : Float) → d ≡ Some x → IsReading body (Reading.DepthDifference x)
 
-pub difference_right : (body : Body) (shown : Shown) (d : Difference) → Shows body shown → d ≡ difference_of shown → DifferenceOf body d
+pub difference_right : (body : Body) (shown : Shown) (d : Option Float) → Shows body shown → d ≡ difference_of shown → DifferenceOf body d
 difference_right body shown d h e x q = h.right (Reading.DepthDifference x) (difference_shown shown x (sym e ∙ q))
 
-taken-apart : (d e : Difference) (p : ChartPoint) → joined d e ≡ Charted.Point p → (d ≡ Difference.Of p.course) × (e ≡ Difference.Of p.glide)
-taken-apart (Difference.Of x) (Difference.Of y) p q = let r : ◌≡◌ {A = ChartPoint} (record { course = x; glide = y }) p = cc in (ap (λ (c : ChartPoint). Difference.Of c.course) r, ap (λ (c : ChartPoint). Difference.Of c.glide) r)
-taken-apart (Difference.Of x) Difference.Absent p q = absurd (never Refusal.Reach p q)
-taken-apart Difference.Absent e p q = absurd (never Refusal.Reach p q)
+taken-apart : (d e : Option Float) (p : ChartPoint) → joined d e ≡ Ok p → (d ≡ Some p.course) × (e ≡ Some p.glide)
+taken-apart (Some x) (Some y) p q = let r : ◌≡◌ {A = ChartPoint} (record { course = x; glide = y }) p = cc in (ap (λ (c : ChartPoint). Some c.course) r, ap (λ (c : ChartPoint). Some c.glide) r)
+taken-apart (Some x) None p q = absurd (never Refusal.Reach p q)
+taken-apart None e p q = absurd (never Refusal.Reach p q)
 
-pub point_right : (first second : Record) (d e : Difference) (answer : Charted) → DifferenceOf first.body d → DifferenceOf second.body e → answer ≡ joined d e → PointOf first second answer
+pub point_right : (first second : Record) (d e : Option Float) (answer : Result ChartPoint Refusal) → DifferenceOf first.body d → DifferenceOf second.body e → answer ≡ joined d e → PointOf first second answer
 point_right first second d e answer course glide h p q =
     let t = taken-apart d e p (sym h ∙ q) in
     (course p.course t.0, glide p.glide t.1)
 
-pub refused_no_point : (first second : Record) (f : Refusal) → PointOf first second (Charted.Refused f)
+pub refused_no_point : (first second : Record) (f : Refusal) → PointOf first second (Err f)
 refused_no_point first second f p q = absurd (never f p q)
 
-given : (test : Bool) (answer : Charted) (f : Refusal) (p : ChartPoint) → cond test answer (Charted.Refused f) ≡ Charted.Point p → answer ≡ Charted.Point p
+given : (test : Bool) (answer : Result ChartPoint Refusal) (f : Refusal) (p : ChartPoint) → cond test answer (Err f) ≡ Ok p → answer ≡ Ok p
 given true answer f p e = e
 given false answer f p e = absurd (never f p e)
 

@@ -1,6 +1,6 @@
 -- The chart point of two words, and what document 01 says of it in terms of the words' own bits.
 -- Assumes nothing.
-use Rattle.std.specs.Prelude.{◌≡◌, refl, Bool, true, false, cond, List, [], ◌∷◌, ◌⊎◌, ◌↔◌, ℕ, zero, suc, ◌/◌, ◌^◌, ◌<◌, ℤ, Float}
+use Rattle.std.specs.Prelude.{◌≡◌, refl, Bool, true, false, cond, List, [], ◌∷◌, ◌⊎◌, ◌↔◌, ℕ, zero, suc, ◌/◌, ◌^◌, ◌<◌, ℤ, Float, Option, Some, None, Result, Ok, Err}
 use Rattle.std.proofs.Common.{sym, ap, ◌∙◌, subst, inl, inr, mod-lt, lt_of_lt_of_le, arith, lit≤, lit<}
 use Rattle.bits.specs.Fields.{bits}
 use Rattle.bits.specs.Complement.{signed, signed-holds}
@@ -17,11 +17,8 @@ use Rattle.labels.specs.Label.{label_of}
 use Rattle.records.specs.All.{kinds, agree}
 use Rattle.labels.specs.Table.{label_number, rows, find_kind, only}
 use Rattle.labels.proofs.Table.{found}
-use Rattle.labels.specs.declared.Lookup.{Lookup}
 use Rattle.decode.specs.Rules.{rules, body_of}
 use Rattle.decode.specs.Decode.{judgement, judged, record_of, decode_found, decode_of}
-use Rattle.decode.specs.declared.Decoded.{Decoded}
-use Rattle.decode.specs.declared.Judgement.{Judgement}
 use Rattle.doubles.specs.Exact.{IsCount}
 use Rattle.doubles.specs.Nearest.{IsNearest}
 use Rattle.readings.specs.Readings.{shown_under}
@@ -29,22 +26,21 @@ use Rattle.readings.specs.Meaning.{HasReading}
 use Rattle.readings.specs.declared.Reading.{Reading}
 use Rattle.chart.specs.Chart.{chart_of}
 use Rattle.chart.specs.declared.ChartPoint.{ChartPoint}
-use Rattle.chart.specs.declared.Charted.{Charted}
 
 -- the first word's refusal, the second's, then what their records give
-abbrev pub chart_decoded : Decoded → Decoded → Charted
-chart_decoded (Decoded.Accepted a) (Decoded.Accepted b) = chart_of a b
-chart_decoded (Decoded.Accepted a) (Decoded.Refused f) = Charted.Refused f
-chart_decoded (Decoded.Refused f) second = Charted.Refused f
+abbrev pub chart_decoded : Result Record Refusal → Result Record Refusal → Result ChartPoint Refusal
+chart_decoded (Ok a) (Ok b) = chart_of a b
+chart_decoded (Ok a) (Err f) = Err f
+chart_decoded (Err f) second = Err f
 
-abbrev pub chart_point : ℕ → ℕ → Charted
+abbrev pub chart_point : ℕ → ℕ → Result ChartPoint Refusal
 chart_point first second = chart_decoded (decode_of first) (decode_of second)
 
 -- ---- the rules of two words
 
 -- a word is accepted, or gives its own refusal
 abbrev pub accepted : ℕ → Rule Refusal
-accepted w = record { kept = (r : Record) × (decode_of w ≡ Decoded.Accepted r); broken = λ f. decode_of w ≡ Decoded.Refused f }
+accepted w = record { kept = (r : Record) × (decode_of w ≡ Ok r); broken = λ f. decode_of w ≡ Err f }
 
 -- bits 30 and 31 say test, 01, or ready, 11
 abbrev pub TestOrReady : ℕ → Type 0
@@ -61,16 +57,16 @@ word_rules first second =
     ∷ []
 
 -- A point's doubles are one division of each word's count, in bits 17 to 29, by 10240 and 5120: the nearest to the quotients.
-abbrev pub PointOfWords : ℕ → ℕ → Charted → Type 0
+abbrev pub PointOfWords : ℕ → ℕ → Result ChartPoint Refusal → Type 0
 PointOfWords first second answer =
-    (p : ChartPoint) → answer ≡ Charted.Point p
+    (p : ChartPoint) → answer ≡ Ok p
     → IsNearest p.course (signed 13 (bits 17 29 first)) 10240 × IsNearest p.glide (signed 13 (bits 17 29 second)) 5120
 
 -- ---- an accepted word is of the kind of its label, and its record is the one that its bits hold
 
-kept_record : (c : Bool) (v : Judgement) (q r : Record) → cond c (judged v q) (Decoded.Refused Refusal.ZeroBit) ≡ Decoded.Accepted r → r ≡ q
-kept_record true Judgement.Kept q r e = cc
-kept_record true (Judgement.Broken f) q r e = cc
+kept_record : (c : Bool) (v : Result Unit Refusal) (q r : Record) → cond c (judged v q) (Err Refusal.ZeroBit) ≡ Ok r → r ≡ q
+kept_record true (Ok tt) q r e = cc
+kept_record true (Err f) q r e = cc
 kept_record false v q r e = cc
 
 pub record Read (w : ℕ) (r : Record) : Type 0 where
@@ -78,23 +74,23 @@ pub record Read (w : ℕ) (r : Record) : Type 0 where
   pub label : label_of w ≡ label_number kind
   pub is : r ≡ record_of kind w
 
-pub clash : (d : Decoded) (f : Refusal) (r : Record) → d ≡ Decoded.Refused f → d ≡ Decoded.Accepted r → ⊥
+pub clash : (d : Result Record Refusal) (f : Refusal) (r : Record) → d ≡ Err f → d ≡ Ok r → ⊥
 clash d f r p q = let z : ◌≡◌ {A = ℕ} 0 1 = cc in omega arith
 
-pub same_refusal : (d : Decoded) (f g : Refusal) → d ≡ Decoded.Refused f → d ≡ Decoded.Refused g → g ≡ f
+pub same_refusal : (d : Result Record Refusal) (f g : Refusal) → d ≡ Err f → d ≡ Err g → g ≡ f
 same_refusal d f g p q = cc
 
-pub read : (w : ℕ) (r : Record) → decode_of w ≡ Decoded.Accepted r → Read w r
+pub read : (w : ℕ) (r : Record) → decode_of w ≡ Ok r → Read w r
 read w r = go (odd w) (find_kind rows (label_of w)) refl
   where
-    go : (b : Bool) (l : Lookup) → find_kind rows (label_of w) ≡ l → cond b (decode_found l w) (Decoded.Refused Refusal.Parity) ≡ Decoded.Accepted r → Read w r
-    go true (Lookup.Known k) q e = record {
+    go : (b : Bool) (l : Option Kind) → find_kind rows (label_of w) ≡ l → cond b (decode_found l w) (Err Refusal.Parity) ≡ Ok r → Read w r
+    go true (Some k) q e = record {
       kind = k;
       label = sym (only kinds (label_of w) k q);
       is = kept_record (clear (word_layout k) w) (judgement (rules k w)) (record_of k w) r e;
     }
-    go true Lookup.Unknown q e = absurd (clash (Decoded.Refused Refusal.Label) Refusal.Label r refl e)
-    go false l q e = absurd (clash (Decoded.Refused Refusal.Parity) Refusal.Parity r refl e)
+    go true None q e = absurd (clash (Err Refusal.Label) Refusal.Label r refl e)
+    go false l q e = absurd (clash (Err Refusal.Parity) Refusal.Parity r refl e)
 
 kind_of_body : (k : Kind) (w : ℕ) → kind_of (body_of k w) ≡ k
 kind_of_body k w = agree (λ k. kind_of (body_of k w)) (λ k. k) refl k
@@ -104,7 +100,7 @@ module _ (w : ℕ) (r : Record) (d : Read w r) where
   of_kind = ap (λ (q : Record). kind_of q.body) d.is ∙ kind_of_body d.kind w
 
   kind_is : (k : Kind) → label_of w ≡ label_number k → d.kind ≡ k
-  kind_is k e = let q : Lookup.Known d.kind ≡ Lookup.Known k = sym (found d.kind) ∙ ap (find_kind rows) (sym d.label ∙ e) ∙ found k in cc
+  kind_is k e = let q : Some d.kind ≡ Some k = sym (found d.kind) ∙ ap (find_kind rows) (sym d.label ∙ e) ∙ found k in cc
 
   pub labelled : (k : Kind) → (label_of w ≡ label_number k) ↔ (kind_of r.body ≡ k)
   labelled k = (λ e. of_kind ∙ kind_is k e, λ e. d.label ∙ ap label_number (sym of_kind ∙ e))

@@ -1,25 +1,9 @@
 // The chart point: the course and glide deviations of two words or records together. The definitions and their laws stand in specs/.
 #![tactic(auto)]
 
-use refusals::Refusal;
-
 // Two deviations in depth difference (document 01's term is a chart point).
 #[derive(Clone, Copy)]
 pub struct ChartPoint {
     pub course: f64,
     pub glide: f64,
-}
-
-// A chart point, or refused.
-#[derive(Clone, Copy)]
-pub enum Charted {
-    Point(ChartPoint),
-    Refused(Refusal),
-}
-
-// A depth difference, if there is one.
-#[derive(Clone, Copy)]
-pub enum Difference {
-    Of(f64),
-    Absent,
 }

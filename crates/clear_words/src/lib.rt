@@ -1,19 +1,18 @@
 // Words of a known kind whose zero bits are zero: the kind's rules, and what the word holds.
 #![tactic(auto)]
 
-ghost use Rattle.std.specs.Prelude.{◌≡◌, cond, eqb};
+ghost use Rattle.std.specs.Prelude.{◌≡◌, ◌<◌, ◌≤◌, cond, eqb};
 ghost use Rattle.bits.specs.Fields.{bits};
 ghost use Rattle.statuses.specs.Statuses.{binary_status};
 ghost use Rattle.decode.specs.Decode.{decode_clear};
 
-use decode::{Decoded, Judgement};
-use records::{AzimuthCount, Body, CourseCount, GlideCount, Kind, MlsCount};
+use records::{AzimuthCount, Body, CourseCount, GlideCount, Kind, MlsCount, Record};
 use refusals::Refusal;
 use statuses::Status;
 
 // The rule of a part: bits 30 and 31 are the part's code.
-fn part_judgement(code: u32, word: u32) -> Judgement
-    ensures { result ≡ cond (eqb (bits 30 31 word) code) Judgement.Kept (Judgement.Broken Refusal.Code) }
+fn part_judgement(code: u32, word: u32) -> Result<(), Refusal>
+    ensures { result ≡ cond (eqb (bits 30 31 word) code) (Ok tt) (Err Refusal.Code) }
 {
     judgements::kept_if(word / 536870912 % 4 == code, Refusal::Code)
 }
@@ -25,23 +24,12 @@ fn status_in(word: u32) -> Status
     statuses::binary_status(word / 536870912 % 4)
 }
 
-// The flags in bits 11, 12 and 19.
-fn flag_11(word: u32) -> bool
-    ensures { result ≡ eqb (bits 11 11 word) 1 }
+// The flag in a bit.
+fn flag_in<const BIT: u32>(word: u32) -> bool
+    requires { (0 < BIT) × (BIT ≤ 32) }
+    ensures { result ≡ eqb (bits BIT BIT word) 1 }
 {
-    word / 1024 % 2 == 1
-}
-
-fn flag_12(word: u32) -> bool
-    ensures { result ≡ eqb (bits 12 12 word) 1 }
-{
-    word / 2048 % 2 == 1
-}
-
-fn flag_19(word: u32) -> bool
-    ensures { result ≡ eqb (bits 19 19 word) 1 }
-{
-    word / 262144 % 2 == 1
+    (word >> (BIT - 1)) % 2 == 1
 }
 
 // The setting in bits 20 to 28.
@@ -59,7 +47,7 @@ fn content_in(word: u32) -> u16
 }
 
 // A word of each kind whose zero bits are zero: its rules, and the fields that the kind has.
-fn vor_azimuth(word: u32) -> Decoded
+fn vor_azimuth(word: u32) -> Result<Record, Refusal>
     ensures { result ≡ decode_clear Kind.VorAzimuth word }
 {
     let code = word / 1024 % 8;
@@ -69,70 +57,70 @@ fn vor_azimuth(word: u32) -> Decoded
         Body::VorAzimuth {
             status: status_in(word),
             marker: codes::marker_of(code),
-            count: AzimuthCount(bits::signed_17_29(word)),
+            count: AzimuthCount(bits::signed_field::<13>(word)),
         },
     )
 }
 
-fn ils_course(word: u32) -> Decoded
+fn ils_course(word: u32) -> Result<Record, Refusal>
     ensures { result ≡ decode_clear Kind.IlsCourse word }
 {
     judgements::judged(
-        Judgement::Kept,
+        Ok(()),
         word,
         Body::IlsCourse {
             status: status_in(word),
-            inhibit: flag_11(word),
-            count: CourseCount(bits::signed_17_29(word)),
+            inhibit: flag_in::<11>(word),
+            count: CourseCount(bits::signed_field::<13>(word)),
         },
     )
 }
 
-fn ils_glide(word: u32) -> Decoded
+fn ils_glide(word: u32) -> Result<Record, Refusal>
     ensures { result ≡ decode_clear Kind.IlsGlide word }
 {
     judgements::judged(
-        Judgement::Kept,
+        Ok(()),
         word,
         Body::IlsGlide {
             status: status_in(word),
-            inhibit: flag_11(word),
-            count: GlideCount(bits::signed_17_29(word)),
+            inhibit: flag_in::<11>(word),
+            count: GlideCount(bits::signed_field::<13>(word)),
         },
     )
 }
 
-fn mls_azimuth_deviation(word: u32) -> Decoded
+fn mls_azimuth_deviation(word: u32) -> Result<Record, Refusal>
     ensures { result ≡ decode_clear Kind.MlsAzimuthDeviation word }
 {
     judgements::judged(
-        Judgement::Kept,
+        Ok(()),
         word,
         Body::MlsAzimuthDeviation {
             status: status_in(word),
-            inhibit: flag_11(word),
-            clearance: flag_12(word),
-            count: MlsCount(bits::signed_14_29(word)),
+            inhibit: flag_in::<11>(word),
+            clearance: flag_in::<12>(word),
+            count: MlsCount(bits::signed_field::<16>(word)),
         },
     )
 }
 
-fn mls_glide_deviation(word: u32) -> Decoded
+fn mls_glide_deviation(word: u32) -> Result<Record, Refusal>
     ensures { result ≡ decode_clear Kind.MlsGlideDeviation word }
 {
     judgements::judged(
-        Judgement::Kept,
+        Ok(()),
         word,
         Body::MlsGlideDeviation {
             status: status_in(word),
-            inhibit: flag_11(word),
-            clearance: flag_12(word),
-            count: MlsCount(bits::signed_14_29(word)),
+            inhibit: flag_in::<11>(word),
+            clearance: flag_in::<12>(word),
+            count: MlsCount(bits::signed_field::<16>(word)),
         },
     )
 }
 
-fn selected_azimuth(word: u32) -> Decoded
+fn selected_azimuth(word: u32) -> Result<Record, Refusal>
     ensures { result ≡ decode_clear Kind.SelectedAzimuth word }
 {
     judgements::judged(
@@ -140,13 +128,13 @@ fn selected_azimuth(word: u32) -> Decoded
         word,
         Body::SelectedAzimuth {
             status: status_in(word),
-            manual: flag_19(word),
+            manual: flag_in::<19>(word),
             degrees: setting_in(word),
         },
     )
 }
 
-fn greatest_glide_angle(word: u32) -> Decoded
+fn greatest_glide_angle(word: u32) -> Result<Record, Refusal>
     ensures { result ≡ decode_clear Kind.GreatestGlideAngle word }
 {
     judgements::judged(
@@ -159,21 +147,21 @@ fn greatest_glide_angle(word: u32) -> Decoded
     )
 }
 
-fn selected_glide_angle(word: u32) -> Decoded
+fn selected_glide_angle(word: u32) -> Result<Record, Refusal>
     ensures { result ≡ decode_clear Kind.SelectedGlideAngle word }
 {
     judgements::judged(
-        Judgement::Kept,
+        Ok(()),
         word,
         Body::SelectedGlideAngle {
             status: status_in(word),
-            manual: flag_19(word),
+            manual: flag_in::<19>(word),
             tenths: setting_in(word),
         },
     )
 }
 
-fn part_1(word: u32) -> Decoded
+fn part_1(word: u32) -> Result<Record, Refusal>
     ensures { result ≡ decode_clear Kind.Part1 word }
 {
     judgements::judged(
@@ -186,7 +174,7 @@ fn part_1(word: u32) -> Decoded
     )
 }
 
-fn part_2(word: u32) -> Decoded
+fn part_2(word: u32) -> Result<Record, Refusal>
     ensures { result ≡ decode_clear Kind.Part2 word }
 {
     judgements::judged(
@@ -198,7 +186,7 @@ fn part_2(word: u32) -> Decoded
     )
 }
 
-fn part_3(word: u32) -> Decoded
+fn part_3(word: u32) -> Result<Record, Refusal>
     ensures { result ≡ decode_clear Kind.Part3 word }
 {
     judgements::judged(
@@ -210,21 +198,21 @@ fn part_3(word: u32) -> Decoded
     )
 }
 
-fn part_4(word: u32) -> Decoded
+fn part_4(word: u32) -> Result<Record, Refusal>
     ensures { result ≡ decode_clear Kind.Part4 word }
 {
     judgements::judged(
         part_judgement(3, word),
         word,
         Body::Part4 {
-            parity_good: flag_11(word),
+            parity_good: flag_in::<11>(word),
             content: content_in(word),
         },
     )
 }
 
 // A word of a known kind whose zero bits are zero.
-pub fn decode_clear(kind: Kind, word: u32) -> Decoded
+pub fn decode_clear(kind: Kind, word: u32) -> Result<Record, Refusal>
     ensures { result ≡ decode_clear kind word }
 {
     match kind {

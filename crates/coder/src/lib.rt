@@ -7,52 +7,46 @@ ghost use Rattle.encode.specs.Encode.{word_as};
 ghost use Rattle.figures.specs.Coding.{quantity_of, quantity_at, ready_record, coded_under, coded_of};
 ghost use Rattle.figures.specs.Ready.{narrow_bits, wide_bits, ready_bits};
 
-use encode::Encoded;
-use figures::Measured;
-use labels::Lookup;
-use quantities::{Nearest, Quantity};
+use quantities::Quantity;
 use records::Kind;
 use refusals::Refusal;
 
 // The quantity that words of a kind measure.
-fn quantity_of(kind: Kind) -> Measured
+fn quantity_of(kind: Kind) -> Option<Quantity>
     ensures { result ≡ quantity_of kind }
 {
     match kind {
-        Kind::VorAzimuth => Measured::As(Quantity::Azimuth),
-        Kind::IlsCourse => Measured::As(Quantity::Course),
-        Kind::IlsGlide => Measured::As(Quantity::Glide),
-        Kind::MlsAzimuthDeviation => Measured::As(Quantity::MlsAzimuth),
-        Kind::MlsGlideDeviation => Measured::As(Quantity::MlsGlide),
-        _ => Measured::Nothing,
+        Kind::VorAzimuth => Some(Quantity::Azimuth),
+        Kind::IlsCourse => Some(Quantity::Course),
+        Kind::IlsGlide => Some(Quantity::Glide),
+        Kind::MlsAzimuthDeviation => Some(Quantity::MlsAzimuth),
+        Kind::MlsGlideDeviation => Some(Quantity::MlsGlide),
+        _ => None,
     }
 }
 
 // The quantity that words of a label measure. A label above 255 is none.
-pub fn find_quantity(label: u64) -> Measured
+pub fn find_quantity(label: u64) -> Option<Quantity>
     ensures { result ≡ quantity_at document01 label }
 {
     if 255 < label {
-        return Measured::Nothing;
+        return None;
     }
-    match label_table::find_kind(label as u32) {
-        Lookup::Known(kind) => quantity_of(kind),
-        Lookup::Unknown => Measured::Nothing,
-    }
+    quantity_of(label_table::find_kind(label as u32)?)
 }
 
 // Bits 11 to 31 of a ready word with a count of 13 bits: the status 3 above it, and zero below.
 fn narrow_bits(count: i16) -> u32
     ensures { result ≡ narrow_bits count }
 {
-    (3 * 8192 + bits::complement_13(count)) * 64
+    (3 * 8192 + bits::complement::<13>(count)) * 64
 }
 
 // The same with a count of 16 bits.
 fn wide_bits(count: i16) -> u32
     ensures { result ≡ wide_bits count }
 {
-    (3 * 65536 + bits::complement_16(count)) * 8
+    (3 * 65536 + bits::complement::<16>(count)) * 8
 }
 
 // Bits 11 to 31 of the ready word of a count.
@@ -79,21 +73,29 @@ fn ready_word(quantity: Quantity, label: u8, source: u8, count: i16) -> u32
 }
 
 // A figure of a quantity, under a label.
-fn code_quantity(quantity: Quantity, label: u8, source: u64, millionths: i64) -> Encoded
+fn code_quantity(
+    quantity: Quantity,
+    label: u8,
+    source: u64,
+    millionths: i64,
+) -> Result<u32, Refusal>
     ensures { result ≡ coded_under quantity label source millionths }
 {
     if 3 < source {
-        return Encoded::Refused(Refusal::Code);
+        return Err(Refusal::Code);
     }
-    match quantities::nearest_count(quantity, millionths) {
-        Nearest::Count(count) => Encoded::Word(ready_word(quantity, label, source as u8, count)),
-        Nearest::OutOfReach => Encoded::Refused(Refusal::Reach),
-    }
+    let count = quantities::nearest_count(quantity, millionths).ok_or(Refusal::Reach)?;
+    Ok(ready_word(quantity, label, source as u8, count))
 }
 
 // The word that a figure of a quantity, in millionths, is coded to under any label and a source, or its refusal. There is one case for
 // each quantity, so that the compiler knows the step in it.
-pub fn code_under(quantity: Quantity, label: u8, source: u64, millionths: i64) -> Encoded
+pub fn code_under(
+    quantity: Quantity,
+    label: u8,
+    source: u64,
+    millionths: i64,
+) -> Result<u32, Refusal>
     ensures { result ≡ coded_under quantity label source millionths }
 {
     match quantity {
@@ -106,11 +108,11 @@ pub fn code_under(quantity: Quantity, label: u8, source: u64, millionths: i64) -
 }
 
 // The word that a figure in millionths is coded to, under a label and a source, or its refusal.
-pub fn code_figure(label: u64, source: u64, millionths: i64) -> Encoded
+pub fn code_figure(label: u64, source: u64, millionths: i64) -> Result<u32, Refusal>
     ensures { result ≡ coded_of label source millionths }
 {
-    match find_quantity(label) {
-        Measured::As(quantity) => code_under(quantity, label as u8, source, millionths),
-        Measured::Nothing => Encoded::Refused(Refusal::Label),
-    }
+    let Some(quantity) = find_quantity(label) else {
+        return Err(Refusal::Label);
+    };
+    code_under(quantity, label as u8, source, millionths)
 }

@@ -5,7 +5,7 @@ ghost use Rattle.std.specs.Prelude.{◌≡◌, ◌<◌};
 ghost use Rattle.codes.specs.Codes.{marker_of, marker_code, marker_listed, category_of, category_code, flag_bit};
 
 // The marker beacon that a VOR azimuth word reports.
-#[derive(Clone, Copy)]
+#[derive(Clone, Copy, PartialEq, Eq, Debug)]
 pub enum Marker {
     None,
     Outer,
@@ -14,7 +14,7 @@ pub enum Marker {
 }
 
 // The ILS category. `NotStated` is our reading of a code that document 002 prints unreadably.
-#[derive(Clone, Copy)]
+#[derive(Clone, Copy, PartialEq, Eq, Debug)]
 pub enum Category {
     NotStated,
     I,
@@ -84,5 +84,5 @@ pub fn flag_bit(flag: bool) -> u32
     ensures value { result ≡ flag_bit flag }
     ensures upper_bound { result < 2 }
 {
-    if flag { 1 } else { 0 }
+    flag as u32
 }

@@ -1,6 +1,6 @@
 -- What a line of the listing shows of a record: the status or the part, and the figure.
 -- Assumes nothing.
-use Rattle.std.specs.Prelude.{false, cond, ℕ, ℤ, nat_abs}
+use Rattle.std.specs.Prelude.{false, cond, ℕ, ℤ, nat_abs, Option, Some, None}
 use Rattle.rounding.specs.Parts.{is_negative}
 use Rattle.records.specs.declared.Body.{Body}
 use Rattle.statuses.specs.declared.Status.{Status}
@@ -16,10 +16,10 @@ use Rattle.columns.specs.declared.Columns.{Columns}
 
 -- a number of units of 1/10^places
 abbrev pub whole_figure : ℕ → ℕ → Figure
-whole_figure places n = Figure.Number false places n
+whole_figure places n = record { negative = false; places = places; size = n }
 
 abbrev pub signed_figure : ℕ → ℤ → Figure
-signed_figure places z = Figure.Number (is_negative z) places (nat_abs z)
+signed_figure places z = record { negative = is_negative z; places = places; size = nat_abs z }
 
 -- 153 in degrees, 154 and 155 in tenths of a degree
 abbrev pub setting_figure : Setting → Figure
@@ -38,15 +38,15 @@ figure_of (Value.Frequency frequency) = whole_figure 2 frequency
 figure_of (Value.Setting setting) = setting_figure setting
 
 -- where a status shows no reading there is no figure
-abbrev pub figure_under : Status → Figure → Figure
-figure_under status figure = cond (is_shown status) figure Figure.Absent
+abbrev pub figure_under : Status → Figure → Option Figure
+figure_under status figure = cond (is_shown status) (Some figure) None
 
 abbrev pub status_columns : Status → Figure → Columns
 status_columns status figure = record { mark = Mark.Status status; figure = figure_under status figure }
 
 -- a part shows its number in the status's place, and its content
 abbrev pub part_columns : ℕ → ℕ → Columns
-part_columns part content = record { mark = Mark.Part part; figure = whole_figure 0 content }
+part_columns part content = record { mark = Mark.Part part; figure = Some (whole_figure 0 content) }
 
 -- a word with a status shows its value's figure, and a part its content as a number
 abbrev pub columns_in : View → Columns

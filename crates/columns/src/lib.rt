@@ -9,36 +9,33 @@ use statuses::Status;
 use views::{Setting, Value, View};
 
 // What stands in the status's place.
-#[derive(Clone, Copy)]
+#[derive(Clone, Copy, PartialEq, Eq, Debug)]
 pub enum Mark {
     Status(Status),
     // a part of the MLS auxiliary data, 1 to 4
     Part(u8),
 }
 
-// A number of units of 1/10^places, by its sign and its size, or none (document 01's term is a figure).
-#[derive(Clone, Copy)]
-pub enum Figure {
-    Number {
-        negative: bool,
-        places: u8,
-        size: u64,
-    },
-    Absent,
+// A number of units of 1/10^places, by its sign and its size (document 01's term is a figure).
+#[derive(Clone, Copy, PartialEq, Eq, Debug)]
+pub struct Figure {
+    pub negative: bool,
+    pub places: u8,
+    pub size: u64,
 }
 
 // The two columns that depend on a record's kind.
-#[derive(Clone, Copy)]
+#[derive(Clone, Copy, PartialEq, Eq, Debug)]
 pub struct Columns {
     pub mark: Mark,
-    pub figure: Figure,
+    pub figure: Option<Figure>,
 }
 
 // A number that has no sign.
 fn whole_figure(places: u8, size: u64) -> Figure
     ensures { result ≡ whole_figure places size }
 {
-    Figure::Number {
+    Figure {
         negative: false,
         places,
         size,
@@ -49,7 +46,7 @@ fn whole_figure(places: u8, size: u64) -> Figure
 fn signed_figure(millionths: i64) -> Figure
     ensures { result ≡ signed_figure 6 millionths }
 {
-    Figure::Number {
+    Figure {
         negative: rounding::is_negative(millionths),
         places: 6,
         size: rounding::magnitude(millionths),
@@ -83,13 +80,13 @@ fn figure_of(value: Value) -> Figure
 }
 
 // What a status shows of a figure: none where it shows no reading.
-fn figure_under(status: Status, figure: Figure) -> Figure
+fn figure_under(status: Status, figure: Figure) -> Option<Figure>
     ensures { result ≡ figure_under status figure }
 {
     if views::is_shown(status) {
-        return figure;
+        return Some(figure);
     }
-    Figure::Absent
+    None
 }
 
 // A word with a status.
@@ -108,7 +105,7 @@ fn part_columns(part: u8, content: u64) -> Columns
 {
     Columns {
         mark: Mark::Part(part),
-        figure: whole_figure(0, content),
+        figure: Some(whole_figure(0, content)),
     }
 }
 

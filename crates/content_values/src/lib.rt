@@ -6,7 +6,6 @@ ghost use Rattle.bits.specs.Complement.{signed};
 ghost use Rattle.contents.specs.BigEndian.{value_of};
 ghost use Rattle.contents.specs.Contents.{word_in, figure_in};
 
-use contents::{FigureIn, WordIn};
 use refusals::Refusal;
 
 // The number whose four bytes these are, the highest first.
@@ -35,23 +34,23 @@ fn signed_64(digits: u64) -> i64
 }
 
 // The word that a word field's content holds; 11 unless it has 4 bytes.
-pub fn word_in(content: &[u8]) -> WordIn
+pub fn word_in(content: &[u8]) -> Result<u32, Refusal>
     ensures { result ≡ word_in content.now }
 {
     if content.len() != 4 {
-        return WordIn::Refused(Refusal::Length);
+        return Err(Refusal::Length);
     }
-    WordIn::Word(of_four(content[0], content[1], content[2], content[3]))
+    Ok(of_four(content[0], content[1], content[2], content[3]))
 }
 
 // The label and the millionths that a figure field's content holds; 11 unless it has 9 bytes.
-pub fn figure_in(content: &[u8]) -> FigureIn
+pub fn figure_in(content: &[u8]) -> Result<(u8, i64), Refusal>
     ensures { result ≡ figure_in content.now }
 {
     if content.len() != 9 {
-        return FigureIn::Refused(Refusal::Length);
+        return Err(Refusal::Length);
     }
     let higher = of_four(content[1], content[2], content[3], content[4]);
     let lower = of_four(content[5], content[6], content[7], content[8]);
-    FigureIn::Figure(content[0], signed_64(of_halves(higher, lower)))
+    Ok((content[0], signed_64(of_halves(higher, lower))))
 }

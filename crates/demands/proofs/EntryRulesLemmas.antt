@@ -1,6 +1,6 @@
 -- Why each entry point follows its rules.
 -- Assumes nothing.
-use Rattle.std.specs.Prelude.{◌≡◌, refl, Bool, true, false, cond, ◌&&◌, ◌⊎◌, ℕ, ◌+◌, ◌^◌, ◌≤◌, ◌<◌, eqb, leb, ltb, length}
+use Rattle.std.specs.Prelude.{◌≡◌, refl, Bool, true, false, cond, ◌&&◌, ◌⊎◌, ℕ, ◌+◌, ◌^◌, ◌≤◌, ◌<◌, eqb, leb, ltb, length, Result, Ok, Err}
 use Rattle.std.proofs.Common.{sym, ap, ◌∙◌, inl, inr, arith, eqb-true, ltb-true, ltb-false}
 use Rattle.std.proofs.Math.Path.{subst⁻¹}
 use mathlib.Core.List.{List, [], ◌∷◌, Memᴰ}
@@ -12,12 +12,11 @@ use Rattle.refusals.specs.declared.Refusal.{Refusal}
 use Rattle.records.specs.declared.Record.{Record}
 use Rattle.labels.proofs.Assignment.{document01}
 use Rattle.encode.specs.Encode.{codes_listed, values_legal, word_as, encode_under, encode_as}
-use Rattle.encode.specs.declared.Encoded.{Encoded}
+use Rattle.reassembly_parts.specs.declared.Part.{Part}
 use Rattle.reassembly_parts.specs.Sequence.{sequence}
 use Rattle.reassembly_parts.specs.declared.Step.{Step}
 use Rattle.part_words.specs.Parts.{part_in, parity_broken}
 use Rattle.reassembly.specs.Step.{step_of, take_word}
-use Rattle.part_words.specs.declared.PartIn.{PartIn}
 use Rattle.reassembly.specs.declared.Reassembler.{Reassembler}
 use Rattle.reassembly.specs.declared.WordAnswer.{WordAnswer}
 use Rattle.fields.specs.declared.FieldKind.{FieldKind}
@@ -34,7 +33,6 @@ use Rattle.reader.proofs.Fields.{walk_gives_at}
 use Rattle.notes.specs.Note.{Text, NoText, is_note, note_in, note_of}
 use Rattle.notes.specs.Place.{note_by_place}
 use Rattle.writer.specs.Write.{answer_of as writeAnswer, write_of, unless_refused, group_of}
-use Rattle.writer.specs.declared.Written.{Written}
 use Rattle.demands.specs.ChainedLemmas.{chained}
 use Rattle.demands.specs.Legal.{LegalCodes, LegalValues}
 use Rattle.demands.specs.TestsLemmas.{odd_test}
@@ -48,7 +46,7 @@ record_follows label r =
     let codes = legal_codes_test r in
     let values = values_test r.body in
     tested encoded (leb r.source 3 && codes_listed r.body) (LegalCodes r) Refusal.Code _ _ codes.0 codes.1
-    (λ c. tested encoded (values_legal r.body) (LegalValues r) Refusal.Value [] _ values.0 values.1 (λ v. no_rules encoded (Encoded.Word (word_as label r)) (word_as label r, refl)))
+    (λ c. tested encoded (values_legal r.body) (LegalValues r) Refusal.Value [] _ values.0 values.1 (λ v. no_rules encoded (Ok (word_as label r)) (word_as label r, refl)))
 
 pub record_follows_as : (label : ℕ) (r : Record) → Follows encoded (record_rules_as label r) (encode_as label r)
 record_follows_as label r =
@@ -69,14 +67,14 @@ module _ (held : Reassembler) (w : ℕ) where
   pub take_follows : w < 2 ^ 32 → Follows taken (take_rules held w) (take_word held w).answer
   take_follows h = chained parts taken (part_rules w) (asks (InTurn held w) Refusal.Sequence ∷ []) (part_in w) (take_word held w).answer (part_follows w h) (by (part_in w) refl)
     where
-      by : (x : PartIn) → part_in w ≡ x
-          → ((f : Refusal) × (part_in w ≡ PartIn.Refused f) × ((take_word held w).answer ≡ WordAnswer.Refused f))
+      by : (x : Result Part Refusal) → part_in w ≡ x
+          → ((f : Refusal) × (part_in w ≡ Err f) × ((take_word held w).answer ≡ WordAnswer.Refused f))
           ⊎ (parts.accepts (part_in w) × Follows taken (asks (InTurn held w) Refusal.Sequence ∷ []) (take_word held w).answer)
-      by (PartIn.Refused f) e = inl (f, e, ap (λ (x : PartIn). (step_of held x).answer) e)
-      by (PartIn.Carried p) e =
+      by (Err f) e = inl (f, e, ap (λ (x : Result Part Refusal). (step_of held x).answer) e)
+      by (Ok p) e =
           inr (
             subst⁻¹ parts.accepts e (p, refl),
-            subst⁻¹ (λ (x : PartIn). Follows taken (asks (InTurn held w) Refusal.Sequence ∷ []) (step_of held x).answer) e
+            subst⁻¹ (λ (x : Result Part Refusal). Follows taken (asks (InTurn held w) Refusal.Sequence ∷ []) (step_of held x).answer) e
                 ((sequence_follows held w) p e (elim (sequence held.group_c p) [ inl i ↦ inl i | inr d ↦ inr (ap (λ (s : Step). s.answer) d) ])),
           )
 
@@ -141,7 +139,7 @@ pub write_follows : (room place n : ℕ) → Follows written (write_rules room p
 write_follows room place n = by (ltb sheet_limit (place + 3 + n)) refl (ltb room (place + 3 + n)) refl
   where
     by : (far : Bool) → ltb sheet_limit (place + 3 + n) ≡ far → (short : Bool) → ltb room (place + 3 + n) ≡ short
-        → Follows written (write_rules room place n) (cond far (Written.Refused Refusal.Oversize 0) (cond short (Written.Refused Refusal.Room 0) (Written.End (place + 3 + n))))
+        → Follows written (write_rules room place n) (cond {A = Result ℕ (Refusal × ℕ)} far (Err (Refusal.Oversize, 0)) (cond short (Err (Refusal.Room, 0)) (Ok (place + 3 + n))))
     by true ef short es = let past : 32768 < place + 3 + n = ltb-true _ _ ef in broken_one written (place + 3 + n ≤ 32768) (Refusal.Oversize, 0) _ (λ h. omega arith)
     by false ef true es =
         let past : room < place + 3 + n = ltb-true _ _ es in

@@ -1,6 +1,6 @@
 -- Decoding follows the rules of a word, and they are all kept exactly by the words that are allowed.
 -- Assumes nothing.
-use Rattle.std.specs.Prelude.{◌≡◌, refl, Bool, true, cond, List, ◌∷◌, ◌↔◌, ℕ, ◌^◌, ◌<◌}
+use Rattle.std.specs.Prelude.{◌≡◌, refl, Bool, true, cond, List, ◌∷◌, ◌↔◌, ℕ, ◌^◌, ◌<◌, Option, Some, None, Result, Ok, Err}
 use Rattle.std.proofs.Common.{sym, ap, ◌∙◌, subst, arith}
 use Rattle.std.proofs.Math.Path.{subst⁻¹}
 use Rattle.bits.specs.Layout.{clear}
@@ -15,11 +15,8 @@ use Rattle.refusals.specs.Order.{no_rules}
 use Rattle.refusals.specs.declared.Refusal.{Refusal}
 use Rattle.labels.specs.Label.{label_of}
 use Rattle.labels.specs.Assignment.{Assignment}
-use Rattle.labels.specs.declared.Lookup.{Lookup}
 use Rattle.decode.specs.Rules.{rules}
 use Rattle.decode.specs.Decode.{judgement, record_of, judged, decode_kind, decode_found, decode_with}
-use Rattle.decode.specs.declared.Decoded.{Decoded}
-use Rattle.decode.specs.declared.Judgement.{Judgement}
 use Rattle.demands.specs.Table.{ZeroBits}
 use Rattle.demands.proofs.TableLemmas.{zero_bits}
 use Rattle.demands.specs.Allowed.{asks, Allowed}
@@ -35,8 +32,8 @@ module _ (a : Assignment) (w : ℕ) where
 
   module _ (k : Kind) (own : label_of w ≡ a.label k) where
     -- a rule of the fields: its test says what is asked of this kind
-    field_follows : (P : Kind → Type 0) (rest : List (Rule Refusal)) (b : Bool) (v : Judgement) (f : Refusal) → (b ≡ true) ↔ P k
-        → (P k → Follows decoded rest (judged v (record_of k w))) → Follows decoded (order.asks (OfItsKind a w P) f ∷ rest) (judged (cond b v (Judgement.Broken f)) (record_of k w))
+    field_follows : (P : Kind → Type 0) (rest : List (Rule Refusal)) (b : Bool) (v : Result Unit Refusal) (f : Refusal) → (b ≡ true) ↔ P k
+        → (P k → Follows decoded rest (judged v (record_of k w))) → Follows decoded (order.asks (OfItsKind a w P) f ∷ rest) (judged (cond b v (Err f)) (record_of k w))
     field_follows P rest b v f test next =
         let its = of_its_kind k own P in
         subst⁻¹ (Follows decoded (order.asks (OfItsKind a w P) f ∷ rest)) (judged_test b v f (record_of k w))
@@ -49,7 +46,7 @@ module _ (a : Assignment) (w : ℕ) where
         (λ d. field_follows (λ j. (asks j w).codes) _ (rules k w).codes _ Refusal.Code t.codes
         (λ c. field_follows (λ j. (asks j w).value) _ (rules k w).value _ Refusal.Value (t.value d c)
         (λ v. field_follows (λ j. (asks j w).angle) _ (rules k w).angle _ Refusal.AngleParity t.angle
-        (λ n. no_rules decoded (Decoded.Accepted (record_of k w)) (record_of k w, refl)))))
+        (λ n. no_rules decoded (Ok (record_of k w)) (record_of k w, refl)))))
 
     kind_follows : Follows decoded (order.asks (OfItsKind a w (λ j. ZeroBits j w)) Refusal.ZeroBit ∷ field_rules a w) (decode_kind k w)
     kind_follows =
@@ -58,15 +55,15 @@ module _ (a : Assignment) (w : ℕ) where
         let same = zero_bits k w in
         tested decoded (clear (word_layout k) w) _ Refusal.ZeroBit (field_rules a w) _ (λ e. its.0 (same.0 (test.0 e))) (λ x. test.1 (same.1 (its.1 x))) (λ x. fields_follow)
 
-  found_follows : (l : Lookup) → a.kind (label_of w) ≡ l
+  found_follows : (l : Option Kind) → a.kind (label_of w) ≡ l
       → Follows decoded (order.asks ((k : Kind) × (label_of w ≡ a.label k)) Refusal.Label ∷ order.asks (OfItsKind a w (λ k. ZeroBits k w)) Refusal.ZeroBit ∷ field_rules a w) (decode_found l w)
-  found_follows (Lookup.Known k) f =
+  found_follows (Some k) f =
       let own : label_of w ≡ a.label k = sym (a.only (label_of w) k f) in
       kept-one decoded _ Refusal.Label _ _ (k, own) (kind_follows k own)
-  found_follows Lookup.Unknown f =
+  found_follows None f =
       broken_one decoded _ Refusal.Label _
       (λ s.
-      let g : Lookup.Known s.0 ≡ Lookup.Unknown = sym (a.found s.0) ∙ ap a.kind (sym s.1) ∙ f in
+      let g : Some s.0 ≡ None = sym (a.found s.0) ∙ ap a.kind (sym s.1) ∙ f in
       let z : ◌≡◌ {A = ℕ} 0 1 = cc in
       omega arith)
 

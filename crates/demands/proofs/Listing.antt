@@ -1,8 +1,10 @@
 -- Document 01's sentences on the listing, each beside what states it.
 -- Assumes nothing.
+use Rattle.std.specs.Prelude.{Result}
 use Rattle.std.proofs.Common.{ap}
 use Rattle.labels.specs.Label.{label_of}
-use Rattle.decode.specs.declared.Decoded.{Decoded}
+use Rattle.records.specs.declared.Record.{Record}
+use Rattle.refusals.specs.declared.Refusal.{Refusal}
 use Rattle.agreements.specs.Agreement.{agrees_of}
 use Rattle.columns.specs.Theorems.{dash_exactly}
 use Rattle.verdicts.proofs.Theorems.{comparable_exactly}
@@ -16,8 +18,8 @@ use Rattle.demands.specs.Listing.{Listing, bad_line, agrees_exactly, figure_unma
 pub listing : Listing text_of word_line
 listing = record {
   bad_sheet = bad_line;
-  accepted-word = λ w r e. ap (λ (d : Decoded). decoded_line d (label_of w)) e;
-  refused-word = λ w f e. ap (λ (d : Decoded). decoded_line d (label_of w)) e;
+  accepted-word = λ w r e. ap (λ (d : Result Record Refusal). decoded_line d (label_of w)) e;
+  refused-word = λ w f e. ap (λ (d : Result Record Refusal). decoded_line d (label_of w)) e;
   lines = one_line_each;
   dash = dash_exactly;
   by_groups = text_by_groups;

@@ -1,7 +1,7 @@
 -- Demand 2: a word is accepted exactly when the layouts of document 01 allow it, and accepted words and legal records give each other back.
 -- Stated under every one-to-one assignment of labels to kinds; document 01's is `document01`.
 -- Assumes nothing.
-use Rattle.std.specs.Prelude.{◌≡◌, refl, ℕ}
+use Rattle.std.specs.Prelude.{◌≡◌, refl, ℕ, Some, Ok}
 use Rattle.std.proofs.Common.{sym, ap, ◌∙◌}
 use Rattle.std.proofs.Math.Path.{subst⁻¹}
 use Rattle.statuses.specs.declared.Status.{Status}
@@ -11,10 +11,8 @@ use Rattle.records.specs.declared.Kind.{Kind}
 use Rattle.records.specs.declared.Record.{Record}
 use Rattle.labels.specs.Label.{label_of}
 use Rattle.labels.specs.Assignment.{Assignment}
-use Rattle.labels.specs.declared.Lookup.{Lookup}
 use Rattle.decode.specs.Rules.{body_of}
 use Rattle.decode.specs.Decode.{record_of, decode_with}
-use Rattle.decode.specs.declared.Decoded.{Decoded}
 use Rattle.encode.specs.Encode.{word_of, values_broken, all_legal_lem}
 use Rattle.encode.proofs.Encode.{codes_broken}
 use Rattle.roundtrip.specs.Reading.{accepted}
@@ -32,7 +30,7 @@ use Rattle.demands.specs.Words.{Demand2, same_word, same_record, no, both, eithe
 
 module _ (a : Assignment) (w : ℕ) where
   -- what an accepted word holds
-  word_holds : (r : Record) → decode_with a w ≡ Decoded.Accepted r → Holds a w r
+  word_holds : (r : Record) → decode_with a w ≡ Ok r → Holds a w r
   word_holds r e =
       let s = accepted a w r e in
       let k = s.0 in
@@ -44,10 +42,10 @@ module _ (a : Assignment) (w : ℕ) where
       })
 
   -- the record that a word holds, where it is accepted at all
-  same_held : (r s : Record) → Holds a w r → decode_with a w ≡ Decoded.Accepted s → s ≡ r
+  same_held : (r s : Record) → Holds a w r → decode_with a w ≡ Ok s → s ≡ r
   same_held r s h e =
       let t = accepted a w s e in
-      let own : Lookup.Known t.0 ≡ Lookup.Known (kind_of r.body) =
+      let own : Some t.0 ≡ Some (kind_of r.body) =
       sym t.1.label ∙ ap a.kind (label_bits w ∙ sym h.label) ∙ a.found (kind_of r.body) in
       let kind : t.0 ≡ kind_of r.body = cc in
       t.2 ∙ ap (λ (k : Kind). record_of k w) kind
@@ -63,7 +61,7 @@ demand2 a = record {
       let order = (word_order a w h).accepted in
       let rules = allowed a w in (
         λ e. (rules.0 (order.0 (r, e)), word_holds a w r e),
-        λ x. let s = order.1 (rules.1 x.0) in s.1 ∙ ap Decoded.Accepted (same_held a w r s.0 x.1 s.1),
+        λ x. let s = order.1 (rules.1 x.0) in s.1 ∙ ap Ok (same_held a w r s.0 x.1 s.1),
       );
   refused = λ w f h. (word_order a w h).refused f;
   word_back = λ w r h e. decode-encode a w r h e;

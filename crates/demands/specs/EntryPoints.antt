@@ -3,7 +3,7 @@
 -- their contracts: it is refused with f (at p) exactly when f is what the first broken rule of its list gives, and gives its answer exactly when none is broken. No answer does both.
 -- Words are 32-bit numbers, and the bytes of a sheet are below 256.
 -- Assumes nothing.
-use Rattle.std.specs.Prelude.{◌≡◌, refl, Bool, true, false, cond, List, ◌++◌, ℕ, ◌^◌, ◌<◌, ltb, ℤ, length, drop}
+use Rattle.std.specs.Prelude.{◌≡◌, refl, Bool, true, false, cond, List, ◌++◌, ℕ, ◌^◌, ◌<◌, ltb, ℤ, length, drop, Ok, Err}
 use Rattle.std.proofs.Common.{arith}
 use Rattle.refusals.specs.Order.{Follows}
 use Rattle.refusals.specs.declared.Refusal.{Refusal}
@@ -14,7 +14,6 @@ use Rattle.labels.proofs.Assignment.{document01}
 use Rattle.decode.specs.Decode.{decode_as, decode_of}
 use Rattle.pages.specs.Page.{page_of}
 use Rattle.pages.specs.Statements.{page_rules, filling}
-use Rattle.pages.specs.declared.Filled.{Filled}
 use Rattle.encode.specs.Encode.{encode_as, encode_of}
 use Rattle.chart.specs.Chart.{chart_of}
 use Rattle.chart.specs.Points.{charted}
@@ -45,9 +44,7 @@ use Rattle.totals.specs.Totals.{totals_of}
 use Rattle.summaries.specs.Statements.{summary_rules, summarizing}
 use Rattle.summaries.specs.Summaries.{summarized_of}
 use Rattle.writer.specs.Write.{write_of, group_of}
-use Rattle.writer.specs.declared.Written.{Written}
 use Rattle.listing.specs.Listing.{listed_of, buffer_of}
-use Rattle.listing.specs.declared.Listed.{Listed}
 use Rattle.demands.specs.Order.{word_rules, decoded}
 use Rattle.demands.specs.EntryRules.{record_rules, record_rules_as, figure_rules, figure_rules_as, part_rules, take_rules, content_rules, note_rules, write_rules, group_rules, room_rules, top_field_rules, encoded, parts, taken, words, figures, checked, passed, walked, noted, counted, written, listed}
 
@@ -58,7 +55,7 @@ pub record Demand1 : Type 0 where
   pub word_as_lem : (a : Assignment) (w : ℕ) → w < 2 ^ 32 → Follows decoded (word_rules a w) (decode_as (a.kind (label_of w)) w)
   -- a page of words into two lists: `decode_page`
   pub page : (words refusals : List ℕ) (counts : List ℤ) → Follows filling (page_rules words refusals counts) (page_of words refusals counts).answer
-  pub page_untouched : (words refusals : List ℕ) (counts : List ℤ) (f : Refusal) → (page_of words refusals counts).answer ≡ Filled.Refused f
+  pub page_untouched : (words refusals : List ℕ) (counts : List ℤ) (f : Refusal) → (page_of words refusals counts).answer ≡ Err f
       → ((page_of words refusals counts).refusals ≡ refusals) × ((page_of words refusals counts).counts ≡ counts)
   -- a record to its word: `encode`, and `encode_as` under any label
   pub «record» : (r : Record) → Follows encoded (record_rules r) (encode_of r)
@@ -93,17 +90,17 @@ pub record Demand1 : Type 0 where
   pub summary : (label source : ℕ) (s : List ℕ) → Bytes s → Follows summarizing (summary_rules label source s) (summarized_of label source (sheet_of s))
   -- one field into a buffer: `write_word`, `write_figure`, `write_note`
   pub write : (out : List ℕ) (place : ℕ) (k : FieldKind) (c : List ℕ) → Follows written (write_rules (length out) place (length c)) (write_of out place k c).answer
-  pub write_untouched : (out : List ℕ) (place : ℕ) (k : FieldKind) (c : List ℕ) (f : Refusal) (p : ℕ) → (write_of out place k c).answer ≡ Written.Refused f p → (write_of out place k c).buffer ≡ out
+  pub write_untouched : (out : List ℕ) (place : ℕ) (k : FieldKind) (c : List ℕ) (f : Refusal) (p : ℕ) → (write_of out place k c).answer ≡ Err (f, p) → (write_of out place k c).buffer ≡ out
   -- a group into a buffer: `write_group`
   pub group : (out : List ℕ) (place : ℕ) (run : List ℕ) → Bytes run → Follows written (group_rules (length out) place run) (group_of out place run).answer
-  pub group_untouched : (out : List ℕ) (place : ℕ) (run : List ℕ) (f : Refusal) (p : ℕ) → (group_of out place run).answer ≡ Written.Refused f p → (group_of out place run).buffer ≡ out
+  pub group_untouched : (out : List ℕ) (place : ℕ) (run : List ℕ) (f : Refusal) (p : ℕ) → (group_of out place run).answer ≡ Err (f, p) → (group_of out place run).buffer ≡ out
   -- a text into a buffer, the listing of a sheet or the lines of its fields: `list_sheet`, `list_fields`
   pub list : (text out : List ℕ) → Follows listed (room_rules (length out) (length text)) (listed_of text out)
-  pub list_untouched : (text out : List ℕ) (f : Refusal) → listed_of text out ≡ Listed.Refused f → buffer_of text out ≡ out
+  pub list_untouched : (text out : List ℕ) (f : Refusal) → listed_of text out ≡ Err f → buffer_of text out ≡ out
 
-pub listed_unchanged : (text out : List ℕ) (f : Refusal) → listed_of text out ≡ Listed.Refused f → buffer_of text out ≡ out
+pub listed_unchanged : (text out : List ℕ) (f : Refusal) → listed_of text out ≡ Err f → buffer_of text out ≡ out
 listed_unchanged text out f = by (ltb (length out) (length text))
   where
-    by : (b : Bool) → cond b (Listed.Refused Refusal.Room) (Listed.Length (length text)) ≡ Listed.Refused f → cond b out (text ++ drop (length text) out) ≡ out
+    by : (b : Bool) → cond b (Err Refusal.Room) (Ok (length text)) ≡ Err f → cond b out (text ++ drop (length text) out) ≡ out
     by true e = refl
     by false e = let z : ◌≡◌ {A = ℕ} 0 1 = cc in absurd (omega arith)

@@ -1,7 +1,7 @@
 -- What each entry point asks, in the order in which it refuses, and how its answers refuse and give. Words have theirs in `Order`, the chart point in `Words` of the crate `chart`,
 -- sheets in `Rules` of the crate `fields`.
 -- Assumes nothing.
-use Rattle.std.specs.Prelude.{◌≡◌, refl, ◌≢◌, ℕ, ◌+◌, ◌%◌, ◌≤◌, ℤ, length, take, drop}
+use Rattle.std.specs.Prelude.{◌≡◌, refl, ◌≢◌, ℕ, ◌+◌, ◌%◌, ◌≤◌, ℤ, length, take, drop, Result, Ok, Err, Option, Some, None}
 use mathlib.Core.List.{List, [], ◌∷◌, ◌++◌, Memᴰ}
 use Rattle.std.specs.Int.Count.{ones}
 use Rattle.bits.specs.Fields.{bits}
@@ -10,7 +10,6 @@ use Rattle.refusals.specs.declared.Refusal.{Refusal}
 use Rattle.records.specs.declared.Record.{Record}
 use Rattle.labels.specs.Label.{label_of}
 use Rattle.labels.proofs.Assignment.{document01}
-use Rattle.encode.specs.declared.Encoded.{Encoded}
 use Rattle.quantities.specs.Statements.{Beyond}
 use Rattle.quantities.specs.declared.Quantity.{Quantity}
 use Rattle.figures.specs.Coding.{label_for}
@@ -18,23 +17,14 @@ use Rattle.reassembly_parts.specs.Sequence.{InSequence}
 use Rattle.reassembly_parts.specs.declared.Group.{Group}
 use Rattle.reassembly_parts.specs.declared.Part.{Part}
 use Rattle.part_words.specs.Carries.{Carries}
-use Rattle.part_words.specs.declared.PartIn.{PartIn}
 use Rattle.reassembly.specs.declared.Reassembler.{Reassembler}
 use Rattle.reassembly.specs.declared.WordAnswer.{WordAnswer}
-use Rattle.contents.specs.declared.WordIn.{WordIn}
-use Rattle.contents.specs.declared.FigureIn.{FigureIn}
 use Rattle.fields.specs.declared.FieldKind.{FieldKind}
 use Rattle.fields.specs.Run.{Field, Fields, sheet_of}
 use Rattle.fields.specs.Rules.{length_in, RefusedAt, Written as WrittenAt, sheet_rules, inside_rules}
-use Rattle.sheet.specs.declared.Checked.{Checked}
-use Rattle.sheet.specs.declared.FieldChecked.{FieldChecked}
 use Rattle.walk.specs.declared.FieldAt.{FieldAt}
-use Rattle.walk.specs.declared.Given.{Given}
 use Rattle.notes.specs.Note.{NoteText, Text, NoText}
-use Rattle.totals.specs.declared.Counted.{Counted}
 use Rattle.totals.specs.declared.Totals.{Totals}
-use Rattle.writer.specs.declared.Written.{Written}
-use Rattle.listing.specs.declared.Listed.{Listed}
 use Rattle.demands.specs.Answers.{Says, refuses, gives, saying}
 use Rattle.demands.specs.Legal.{LegalCodes, LegalValues}
 
@@ -115,19 +105,19 @@ room_rules room n = asks (n ≤ room) Refusal.Room ∷ []
 
 -- ---- the answers
 
-abbrev pub say_encoded : Encoded → Says Refusal ℕ
-say_encoded (Encoded.Word w) = gives w
-say_encoded (Encoded.Refused f) = refuses f
+abbrev pub say_encoded : Result ℕ Refusal → Says Refusal ℕ
+say_encoded (Ok w) = gives w
+say_encoded (Err f) = refuses f
 
-abbrev pub encoded : Answers Refusal Encoded
-encoded = saying Encoded.Refused say_encoded (λ f. refl)
+abbrev pub encoded : Answers Refusal (Result ℕ Refusal)
+encoded = saying Err say_encoded (λ f. refl)
 
-abbrev pub say_part : PartIn → Says Refusal Part
-say_part (PartIn.Carried p) = gives p
-say_part (PartIn.Refused f) = refuses f
+abbrev pub say_part : Result Part Refusal → Says Refusal Part
+say_part (Ok p) = gives p
+say_part (Err f) = refuses f
 
-abbrev pub parts : Answers Refusal PartIn
-parts = saying PartIn.Refused say_part (λ f. refl)
+abbrev pub parts : Answers Refusal (Result Part Refusal)
+parts = saying Err say_part (λ f. refl)
 
 -- a part is taken, with the group if it was the last
 pub data Taken : Type 0 where
@@ -142,52 +132,52 @@ say_taken (WordAnswer.Refused f) = refuses f
 abbrev pub taken : Answers Refusal WordAnswer
 taken = saying WordAnswer.Refused say_taken (λ f. refl)
 
-abbrev pub say_word : WordIn → Says Refusal ℕ
-say_word (WordIn.Word w) = gives w
-say_word (WordIn.Refused f) = refuses f
+abbrev pub say_word : Result ℕ Refusal → Says Refusal ℕ
+say_word (Ok w) = gives w
+say_word (Err f) = refuses f
 
-abbrev pub words : Answers Refusal WordIn
-words = saying WordIn.Refused say_word (λ f. refl)
+abbrev pub words : Answers Refusal (Result ℕ Refusal)
+words = saying Err say_word (λ f. refl)
 
-abbrev pub say_figure : FigureIn → Says Refusal (ℕ × ℤ)
-say_figure (FigureIn.Figure label m) = gives (label, m)
-say_figure (FigureIn.Refused f) = refuses f
+abbrev pub say_figure : Result (ℕ × ℤ) Refusal → Says Refusal (ℕ × ℤ)
+say_figure (Ok (label, m)) = gives (label, m)
+say_figure (Err f) = refuses f
 
-abbrev pub figures : Answers Refusal FigureIn
-figures = saying FigureIn.Refused say_figure (λ f. refl)
+abbrev pub figures : Answers Refusal (Result (ℕ × ℤ) Refusal)
+figures = saying Err say_figure (λ f. refl)
 
-abbrev pub say_checked : Checked → Says (Refusal × ℕ) (Unit {0})
-say_checked Checked.Legal = gives tt
-say_checked (Checked.Refused f p) = refuses (f, p)
+abbrev pub say_checked : Result Unit (Refusal × ℕ) → Says (Refusal × ℕ) (Unit {0})
+say_checked (Ok tt) = gives tt
+say_checked (Err (f, p)) = refuses (f, p)
 
-abbrev pub checked : Answers (Refusal × ℕ) Checked
-checked = saying (λ r. Checked.Refused r.0 r.1) say_checked (λ r. refl)
+abbrev pub checked : Answers (Refusal × ℕ) (Result Unit (Refusal × ℕ))
+checked = saying (λ r. Err (r.0, r.1)) say_checked (λ r. refl)
 
 -- no byte is left, or the sheet goes on at a place
 pub data Passed : Type 0 where
   no_byte_left : Passed
   goes_on : ℕ → Passed
 
-abbrev pub say_passed : FieldChecked → Says (Refusal × ℕ) Passed
-say_passed FieldChecked.End = gives no_byte_left
-say_passed (FieldChecked.Next next) = gives (goes_on next)
-say_passed (FieldChecked.Refused f p) = refuses (f, p)
+abbrev pub say_passed : Result (Option ℕ) (Refusal × ℕ) → Says (Refusal × ℕ) Passed
+say_passed (Ok None) = gives no_byte_left
+say_passed (Ok (Some next)) = gives (goes_on next)
+say_passed (Err (f, p)) = refuses (f, p)
 
-abbrev pub passed : Answers (Refusal × ℕ) FieldChecked
-passed = saying (λ r. FieldChecked.Refused r.0 r.1) say_passed (λ r. refl)
+abbrev pub passed : Answers (Refusal × ℕ) (Result (Option ℕ) (Refusal × ℕ))
+passed = saying (λ r. Err (r.0, r.1)) say_passed (λ r. refl)
 
 -- the next field, or the end
 pub data Next : Type 0 where
   next_field : FieldAt → Next
   no_field : Next
 
-abbrev pub say_given : Given → Says (Refusal × ℕ) Next
-say_given (Given.Field a) = gives (next_field a)
-say_given Given.End = gives no_field
-say_given (Given.Refused f p) = refuses (f, p)
+abbrev pub say_given : Result (Option FieldAt) (Refusal × ℕ) → Says (Refusal × ℕ) Next
+say_given (Ok (Some a)) = gives (next_field a)
+say_given (Ok None) = gives no_field
+say_given (Err (f, p)) = refuses (f, p)
 
-abbrev pub walked : Answers (Refusal × ℕ) Given
-walked = saying (λ r. Given.Refused r.0 r.1) say_given (λ r. refl)
+abbrev pub walked : Answers (Refusal × ℕ) (Result (Option FieldAt) (Refusal × ℕ))
+walked = saying (λ r. Err (r.0, r.1)) say_given (λ r. refl)
 
 abbrev pub say_note : NoteText → Says (Refusal × ℕ) (List ℕ)
 say_note (Text t) = gives t
@@ -196,23 +186,23 @@ say_note (NoText f p) = refuses (f, p)
 abbrev pub noted : Answers (Refusal × ℕ) NoteText
 noted = saying (λ r. NoText r.0 r.1) say_note (λ r. refl)
 
-abbrev pub say_counted : Counted → Says (Refusal × ℕ) Totals
-say_counted (Counted.Totals t) = gives t
-say_counted (Counted.Refused f p) = refuses (f, p)
+abbrev pub say_counted : Result Totals (Refusal × ℕ) → Says (Refusal × ℕ) Totals
+say_counted (Ok t) = gives t
+say_counted (Err (f, p)) = refuses (f, p)
 
-abbrev pub counted : Answers (Refusal × ℕ) Counted
-counted = saying (λ r. Counted.Refused r.0 r.1) say_counted (λ r. refl)
+abbrev pub counted : Answers (Refusal × ℕ) (Result Totals (Refusal × ℕ))
+counted = saying (λ r. Err (r.0, r.1)) say_counted (λ r. refl)
 
-abbrev pub say_written : Written → Says (Refusal × ℕ) ℕ
-say_written (Written.End end) = gives end
-say_written (Written.Refused f p) = refuses (f, p)
+abbrev pub say_written : Result ℕ (Refusal × ℕ) → Says (Refusal × ℕ) ℕ
+say_written (Ok end) = gives end
+say_written (Err (f, p)) = refuses (f, p)
 
-abbrev pub written : Answers (Refusal × ℕ) Written
-written = saying (λ r. Written.Refused r.0 r.1) say_written (λ r. refl)
+abbrev pub written : Answers (Refusal × ℕ) (Result ℕ (Refusal × ℕ))
+written = saying (λ r. Err (r.0, r.1)) say_written (λ r. refl)
 
-abbrev pub say_listed : Listed → Says Refusal ℕ
-say_listed (Listed.Length n) = gives n
-say_listed (Listed.Refused f) = refuses f
+abbrev pub say_listed : Result ℕ Refusal → Says Refusal ℕ
+say_listed (Ok n) = gives n
+say_listed (Err f) = refuses f
 
-abbrev pub listed : Answers Refusal Listed
-listed = saying Listed.Refused say_listed (λ f. refl)
+abbrev pub listed : Answers Refusal (Result ℕ Refusal)
+listed = saying Err say_listed (λ f. refl)

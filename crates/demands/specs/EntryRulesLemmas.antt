@@ -1,6 +1,6 @@
 -- Why each entry point follows its rules.
 -- Assumes nothing.
-use Rattle.std.specs.Prelude.{◌≡◌, refl, Bool, true, false, cond, ◌⊎◌, ◌↔◌, ◌≢◌, ℕ, zero, suc, ◌+◌, ◌≤◌, ◌<◌, eqb, leb, ltb, ℤ, length}
+use Rattle.std.specs.Prelude.{◌≡◌, refl, Bool, true, false, cond, ◌⊎◌, ◌↔◌, ◌≢◌, ℕ, zero, suc, ◌+◌, ◌≤◌, ◌<◌, eqb, leb, ltb, ℤ, length, Option, Some, None, Result, Ok, Err}
 use Rattle.std.proofs.Common.{sym, ap, subst, ◌∙◌, inl, inr, arith, eqb-true, eq-eqb, leb-true, le-leb, ltb-true, ltb-false}
 use Rattle.std.proofs.Math.Path.{subst⁻¹}
 use mathlib.Core.List.{List, [], ◌∷◌}
@@ -14,15 +14,12 @@ use Rattle.refusals.specs.declared.Refusal.{Refusal}
 use Rattle.records.specs.declared.Kind.{Kind}
 use Rattle.labels.specs.Label.{label_of}
 use Rattle.labels.proofs.Assignment.{document01}
-use Rattle.encode.specs.declared.Encoded.{Encoded}
 use Rattle.quantities.specs.Nearest.{nearest_count}
 use Rattle.quantities.specs.Statements.{Beyond}
 use Rattle.quantities.proofs.Theorems as quantities_proofs
-use Rattle.quantities.specs.declared.Nearest.{Nearest}
 use Rattle.quantities.specs.declared.Quantity.{Quantity}
 use Rattle.figures.specs.Coding.{label_for, quantity_at, coded_nearest, coded_under, coded_measured, coded_of}
 use Rattle.figures.specs.Words.{quantity_of_label, unmeasured}
-use Rattle.figures.specs.declared.Measured.{Measured}
 use Rattle.reassembly_parts.specs.Sequence.{InSequence}
 use Rattle.reassembly_parts.proofs.Sequence.{in_sequence}
 use Rattle.reassembly_parts.specs.Take.{take_of}
@@ -33,7 +30,6 @@ use Rattle.part_words.proofs.Carries.{part1, part2, part3, part4, other_label, c
 use Rattle.part_words.specs.Carries as reassembly-carries
 use Rattle.part_words.specs.Parts.{part_in}
 use Rattle.reassembly.specs.Step.{answer_of}
-use Rattle.part_words.specs.declared.PartIn.{PartIn}
 use Rattle.reassembly.specs.declared.Reassembler.{Reassembler}
 use Rattle.contents.specs.Contents.{word_in, figure_in}
 use Rattle.fields.specs.Grammar.{Bytes}
@@ -45,7 +41,6 @@ use Rattle.sheet.specs.Checked.{checked_of}
 use Rattle.reader.specs.Fields.{field_in}
 use Rattle.totals.specs.Totals.{totals_of}
 use Rattle.listing.specs.Listing.{listed_of}
-use Rattle.listing.specs.declared.Listed.{Listed}
 use Rattle.demands.specs.ChainedLemmas.{chained}
 use Rattle.demands.specs.EntryRules.{reach_rule, figure_rules, figure_rules_as, content_rules, room_rules, encoded, parts, taken, words, figures, checked, walked, counted, listed}
 
@@ -59,30 +54,30 @@ figure_follows_as q label source figure =
     let few = at_most source 3 in
     tested encoded (leb source 3) (source ≤ 3) Refusal.Code _ _ few.0 few.1 (λ s. by (nearest_count q figure) refl)
   where
-    by : (n : Nearest) → nearest_count q figure ≡ n → Follows encoded (asks (Beyond q figure → ⊥) Refusal.Reach ∷ []) (coded_nearest q label source n)
-    by (Nearest.Count c) e =
-        let w : Encoded = coded_nearest q label source (Nearest.Count c) in
+    by : (n : Option ℤ) → nearest_count q figure ≡ n → Follows encoded (asks (Beyond q figure → ⊥) Refusal.Reach ∷ []) (coded_nearest q label source n)
+    by (Some c) e =
+        let w : Result ℕ Refusal = coded_nearest q label source (Some c) in
         let within : Beyond q figure → ⊥ = λ b.
-        let out : Nearest.Count c ≡ Nearest.OutOfReach = sym e ∙ (quantities_proofs.refused q figure).1 b in
+        let out : Some c ≡ None = sym e ∙ (quantities_proofs.refused q figure).1 b in
         let z : ◌≡◌ {A = ℕ} 0 1 = cc in omega arith in
         kept-one encoded (Beyond q figure → ⊥) Refusal.Reach [] w within (no_rules encoded w (_, refl))
-    by Nearest.OutOfReach e = broken_one encoded (Beyond q figure → ⊥) Refusal.Reach [] (λ n. n ((quantities_proofs.refused q figure).0 e))
+    by None e = broken_one encoded (Beyond q figure → ⊥) Refusal.Reach [] (λ n. n ((quantities_proofs.refused q figure).0 e))
 
 module _ (label source : ℕ) (figure : ℤ) where
   -- a label stands for one quantity only
   one_quantity : (p q : Quantity) → label ≡ label_for document01 p → label ≡ label_for document01 q → p ≡ q
   one_quantity p q e f =
-      let both : Measured.As p ≡ Measured.As q = sym (quantity_of_label document01 p) ∙ ap (quantity_at document01) (sym e ∙ f) ∙ quantity_of_label document01 q in
+      let both : Some p ≡ Some q = sym (quantity_of_label document01 p) ∙ ap (quantity_at document01) (sym e ∙ f) ∙ quantity_of_label document01 q in
       cc
 
-  reach_follows : (q : Quantity) → label ≡ label_for document01 q → (n : Nearest) → nearest_count q figure ≡ n → Follows encoded (reach_rule label figure ∷ []) (coded_nearest q label source n)
-  reach_follows q own (Nearest.Count c) e =
-      let w : Encoded = coded_nearest q label source (Nearest.Count c) in
+  reach_follows : (q : Quantity) → label ≡ label_for document01 q → (n : Option ℤ) → nearest_count q figure ≡ n → Follows encoded (reach_rule label figure ∷ []) (coded_nearest q label source n)
+  reach_follows q own (Some c) e =
+      let w : Result ℕ Refusal = coded_nearest q label source (Some c) in
       let within : (p : Quantity) → label ≡ label_for document01 p → Beyond p figure → ⊥ = λ p f b.
-      let out : Nearest.Count c ≡ Nearest.OutOfReach = sym e ∙ (quantities_proofs.refused q figure).1 (subst (λ (x : Quantity). Beyond x figure) (one_quantity p q f own) b) in
+      let out : Some c ≡ None = sym e ∙ (quantities_proofs.refused q figure).1 (subst (λ (x : Quantity). Beyond x figure) (one_quantity p q f own) b) in
       let z : ◌≡◌ {A = ℕ} 0 1 = cc in omega arith in
       kept-first encoded (reach_rule label figure) [] w within (λ f b. within b.0 b.1 b.2) (no_rules encoded w (_, refl))
-  reach_follows q own Nearest.OutOfReach e =
+  reach_follows q own None e =
       let far : Beyond q figure = (quantities_proofs.refused q figure).0 e in
       broken_first encoded (reach_rule label figure) [] Refusal.Reach (λ k. k q own far) (q, own, far, refl) (λ g b. b.3)
 
@@ -116,9 +111,9 @@ module _ (label source : ℕ) (figure : ℤ) where
   pub figure_follows : Follows encoded (figure_rules label source figure) (coded_of label source figure)
   figure_follows = elim five [
     | inl (q, own) ↦ kept-one encoded ((p : Quantity) × (label ≡ label_for document01 p)) Refusal.Label _ _ (q, own)
-        (subst⁻¹ (λ (m : Measured). Follows encoded (asks (source ≤ 3) Refusal.Code ∷ reach_rule label figure ∷ []) (coded_measured m label source figure))
+        (subst⁻¹ (λ (m : Option Quantity). Follows encoded (asks (source ≤ 3) Refusal.Code ∷ reach_rule label figure ∷ []) (coded_measured m label source figure))
         (ap (quantity_at document01) own ∙ quantity_of_label document01 q) (measured_follows q own))
-    | inr none ↦ subst⁻¹ (λ (m : Measured). Follows encoded (figure_rules label source figure) (coded_measured m label source figure)) (unmeasured document01 label none)
+    | inr none ↦ subst⁻¹ (λ (m : Option Quantity). Follows encoded (figure_rules label source figure) (coded_measured m label source figure)) (unmeasured document01 label none)
         (broken_one encoded ((p : Quantity) × (label ≡ label_for document01 p)) Refusal.Label _ (λ s. none s.0 s.1))
   ]
 
@@ -148,9 +143,9 @@ module _ (w : ℕ) where
   tested_follows : (from code : ℕ) (p : Part) → ((bits from 13 w ≡ 0) ↔ ZerosKept w) → label_of w ≡ 0o140 + code → Follows parts (last_rules w) (reassembly-carries.tested from code w p)
   tested_follows from code p zeros own =
       tested parts (eqb (bits from 13 w) 0) (ZerosKept w) Refusal.ZeroBit _ _ (λ e. zeros.0 (eqb-true (bits from 13 w) 0 e)) (λ k. eq-eqb (bits from 13 w) 0 (zeros.1 k))
-      (λ z. tested parts (eqb (bits 30 31 w) code) (label_of w ≡ 0o140 + bits 30 31 w) Refusal.Code [] (PartIn.Carried p)
+      (λ z. tested parts (eqb (bits 30 31 w) code) (label_of w ≡ 0o140 + bits 30 31 w) Refusal.Code [] (Ok p)
       (λ e. own ∙ ap (λ (n : ℕ). 0o140 + n) (sym (eqb-true (bits 30 31 w) code e))) (λ k. eq-eqb (bits 30 31 w) code (code_is (label_of w) (bits 30 31 w) code own k))
-      (λ k. no_rules parts (PartIn.Carried p) (p, refl)))
+      (λ k. no_rules parts (Ok p) (p, refl)))
 
   early : label_of w ≢ 0o143 → (bits 11 13 w ≡ 0) ↔ ZerosKept w
   early n = (λ z. (λ e. absurd (n e), λ m. z), λ k. k.1 n)
@@ -194,11 +189,11 @@ module _ (held : Reassembler) (w : ℕ) where
   given_so (Answer.Complete g) n = (_, refl)
   given_so Answer.OutOfSequence n = absurd (n refl)
 
-  pub sequence_follows : (p : Part) → part_in w ≡ PartIn.Carried p → InSequence held.group_c p ⊎ ((take_of held.group_c p).answer ≡ Answer.OutOfSequence)
+  pub sequence_follows : (p : Part) → part_in w ≡ Ok p → InSequence held.group_c p ⊎ ((take_of held.group_c p).answer ≡ Answer.OutOfSequence)
       → Follows taken (asks InTurn Refusal.Sequence ∷ []) (answer_of (take_of held.group_c p).answer)
   sequence_follows p e (inl i) =
       kept-one taken InTurn Refusal.Sequence [] _
-      (λ q c. let same : PartIn.Carried p ≡ PartIn.Carried q = sym e ∙ (carries document01 w q).1 c in let one : p ≡ q = cc in subst (InSequence held.group_c) one i)
+      (λ q c. let same : ◌≡◌ {A = Result Part Refusal} (Ok p) (Ok q) = sym e ∙ (carries document01 w q).1 c in let one : p ≡ q = cc in subst (InSequence held.group_c) one i)
       (no_rules taken _ (given_so (take_of held.group_c p).answer (in_sequence held.group_c p i)))
   sequence_follows p e (inr out) =
       subst⁻¹ (λ (x : Answer). Follows taken (asks InTurn Refusal.Sequence ∷ []) (answer_of x)) out
@@ -248,6 +243,6 @@ pub listed_follows : (text out : List ℕ) → Follows listed (room_rules (lengt
 listed_follows text out = by (ltb (length out) (length text)) refl
   where
     by : (short : Bool) → ltb (length out) (length text) ≡ short
-        → Follows listed (room_rules (length out) (length text)) (cond short (Listed.Refused Refusal.Room) (Listed.Length (length text)))
+        → Follows listed (room_rules (length out) (length text)) (cond short (Err Refusal.Room) (Ok (length text)))
     by true e = let past : length out < length text = ltb-true _ _ e in broken_one listed (length text ≤ length out) Refusal.Room [] (λ h. omega arith)
     by false e = kept-one listed (length text ≤ length out) Refusal.Room [] _ (ltb-false _ _ e) (no_rules listed _ (_, refl))

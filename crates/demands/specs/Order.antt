@@ -1,6 +1,6 @@
 -- Why a word is refused: the first rule that it breaks, in document 01's order 1, 2, 3, 5, 4, 6, 7; and how decoding answers.
 -- Assumes nothing.
-use Rattle.std.specs.Prelude.{◌≡◌, List, [], ◌∷◌, ℕ, ◌%◌}
+use Rattle.std.specs.Prelude.{◌≡◌, List, [], ◌∷◌, ℕ, ◌%◌, Result, Ok, Err}
 use Rattle.std.proofs.Common.{arith}
 use Rattle.std.specs.Int.Count.{ones}
 use Rattle.records.specs.declared.Kind.{Kind}
@@ -10,7 +10,6 @@ use Rattle.refusals.specs.Order as order
 use Rattle.refusals.specs.declared.Refusal.{Refusal}
 use Rattle.labels.specs.Label.{label_of}
 use Rattle.labels.specs.Assignment.{Assignment}
-use Rattle.decode.specs.declared.Decoded.{Decoded}
 use Rattle.demands.specs.Table.{ZeroBits}
 use Rattle.demands.specs.Allowed.{asks}
 
@@ -38,17 +37,17 @@ word_rules a w =
 -- ---- the answer
 
 -- no answer both refuses and has a record, and a refusal has one number
-pub never : (r : Record) (f : Refusal) → Decoded.Refused f ≡ Decoded.Accepted r → ⊥
+pub never : (r : Record) (f : Refusal) → Err f ≡ Ok r → ⊥
 never r f e = let z : ◌≡◌ {A = ℕ} 0 1 = cc in omega arith
 
-pub one_refusal : (f g : Refusal) → Decoded.Refused f ≡ Decoded.Refused g → f ≡ g
+pub one_refusal : (f g : Refusal) → ◌≡◌ {A = Result Record Refusal} (Err f) (Err g) → f ≡ g
 one_refusal f g e = cc
 
 -- a word is refused, or has a record
-abbrev pub decoded : Answers Refusal Decoded
+abbrev pub decoded : Answers Refusal (Result Record Refusal)
 decoded = record {
-  refuse = Decoded.Refused;
-  accepts = λ d. (r : Record) × (d ≡ Decoded.Accepted r);
+  refuse = Err;
+  accepts = λ d. (r : Record) × (d ≡ Ok r);
   apart = λ f h. never h.0 f h.1;
   once = one_refusal;
 }

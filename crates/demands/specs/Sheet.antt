@@ -1,13 +1,11 @@
 -- Document 01's sentences on the sheet, each beside what states it.
 -- Assumes nothing.
-use Rattle.std.specs.Prelude.{◌≡◌, true, List, [], ◌∷◌, ◌↔◌, ℕ, ◌^◌, ◌≤◌, ◌<◌, ℤ, length}
+use Rattle.std.specs.Prelude.{◌≡◌, true, List, [], ◌∷◌, ◌↔◌, ℕ, ◌^◌, ◌≤◌, ◌<◌, ℤ, length, Ok}
 use Rattle.bits.specs.Complement.{Holds}
 use Rattle.refusals.specs.Order.{Follows}
 use Rattle.refusals.specs.declared.Refusal.{Refusal}
 use Rattle.contents.specs.BigEndian as contents
 use Rattle.contents.specs.Contents.{word_bytes, figure_bytes, word_in, figure_in}
-use Rattle.contents.specs.declared.FigureIn.{FigureIn}
-use Rattle.contents.specs.declared.WordIn.{WordIn}
 use Rattle.fields.specs.declared.FieldKind.{FieldKind}
 use Rattle.fields.specs.Grammar.{Trees, bytes_of, fields_of, Bytes, Allowed, WrittenBy}
 use Rattle.fields.specs.Answers.{scanned}
@@ -25,10 +23,10 @@ pub record Sheet (sheet : List ℕ → Scan) : Type 0 where
   -- "Tag 10 hex: word, 4 bytes, high first. 11: figure, 9 bytes: label as a number, then the millionths in two's complement. 12: note of any length. 20: group"
   pub tags : (tag_of FieldKind.Word ≡ 0x10) × (tag_of FieldKind.Figure ≡ 0x11) × (tag_of FieldKind.Note ≡ 0x12) × (tag_of FieldKind.Group ≡ 0x20)
   pub lengths : (n : ℕ) → ((length_allowed FieldKind.Word n ≡ true) ↔ (n ≡ 4)) × ((length_allowed FieldKind.Figure n ≡ true) ↔ (n ≡ 9)) × (length_allowed FieldKind.Note n ≡ true)
-  pub word_in_lem : (w : ℕ) → w < 2 ^ 32 → word_in (word_bytes w) ≡ WordIn.Word w
-  pub word_bytes_lem : (bs : List ℕ) (w : ℕ) → contents.Bytes bs → word_in bs ≡ WordIn.Word w → bs ≡ word_bytes w
-  pub figure_in_lem : (label : ℕ) (m : ℤ) → Holds 64 m → figure_in (figure_bytes label m) ≡ FigureIn.Figure label m
-  pub figure_bytes_lem : (bs : List ℕ) (label : ℕ) (m : ℤ) → contents.Bytes bs → figure_in bs ≡ FigureIn.Figure label m → bs ≡ figure_bytes label m
+  pub word_in_lem : (w : ℕ) → w < 2 ^ 32 → word_in (word_bytes w) ≡ Ok w
+  pub word_bytes_lem : (bs : List ℕ) (w : ℕ) → contents.Bytes bs → word_in bs ≡ Ok w → bs ≡ word_bytes w
+  pub figure_in_lem : (label : ℕ) (m : ℤ) → Holds 64 m → figure_in (figure_bytes label m) ≡ Ok (label, m)
+  pub figure_bytes_lem : (bs : List ℕ) (label : ℕ) (m : ℤ) → contents.Bytes bs → figure_in bs ≡ Ok (label, m) → bs ≡ figure_bytes label m
   -- "Empty sheet, empty group and empty note are legal."
   pub empty_sheet : sheet [] ≡ Fields []
   pub empty_group : sheet (0x20 ∷ 0 ∷ 0 ∷ []) ≡ Fields (record { place = 0; depth = 1; kind = FieldKind.Group; content = [] } ∷ [])

@@ -1,7 +1,7 @@
 -- Document 01's starred lines, words and figures, with request 3's in place of the MLS figures that it withdraws and with frequencies on and off
 -- the raster of request 5, each with its record, its count or its refusal: one table, proved by one computed equation.
 -- Assumes nothing.
-use Rattle.std.specs.Prelude.{true, false, List, [], ◌∷◌, ℕ, ℤ, pos, neg_ℤ}
+use Rattle.std.specs.Prelude.{true, false, List, [], ◌∷◌, ℕ, ℤ, pos, neg_ℤ, Option, Some, None, Result, Ok, Err}
 use Rattle.refusals.specs.Numbers.{number_of}
 use Rattle.records.specs.declared.Body.{Body}
 use Rattle.codes.specs.declared.Category.{Category}
@@ -10,10 +10,9 @@ use Rattle.records.specs.declared.Record.{Record}
 use Rattle.statuses.specs.declared.Status.{Status}
 use Rattle.labels.proofs.Assignment.{document01}
 use Rattle.decode.specs.Decode.{decode_of}
-use Rattle.decode.specs.declared.Decoded.{Decoded}
-use Rattle.encode.specs.declared.Encoded.{Encoded}
+use Rattle.quantities.specs.declared.Quantity.{Quantity}
+use Rattle.refusals.specs.declared.Refusal.{Refusal}
 use Rattle.quantities.specs.Nearest.{millionths_of}
-use Rattle.measurements.specs.declared.Measurement.{Measurement}
 use Rattle.figures.specs.Coding.{coded_of}
 use Rattle.agreements.specs.Agreement.{word_measurement}
 
@@ -97,21 +96,21 @@ starred =
     ∷ (figure 0o222 (pos 360000000) gives refused 8)
     ∷ []
 
-abbrev decoded : Decoded → Answer
-decoded (Decoded.Accepted r) = holds r
-decoded (Decoded.Refused f) = refused (number_of f)
+abbrev decoded : Result Record Refusal → Answer
+decoded (Ok r) = holds r
+decoded (Err f) = refused (number_of f)
 
-abbrev counted : Measurement → Answer
-counted (Measurement.Count q c) = count c
-counted Measurement.Nothing = nothing
+abbrev counted : Option (Quantity × ℤ) → Answer
+counted (Some (q, c)) = count c
+counted None = nothing
 
-abbrev printed : Measurement → Answer
-printed (Measurement.Count q c) = prints (millionths_of q c)
-printed Measurement.Nothing = nothing
+abbrev printed : Option (Quantity × ℤ) → Answer
+printed (Some (q, c)) = prints (millionths_of q c)
+printed None = nothing
 
-abbrev coded : Encoded → Answer
-coded (Encoded.Word w) = counted (word_measurement document01 w)
-coded (Encoded.Refused f) = refused (number_of f)
+abbrev coded : Result ℕ Refusal → Answer
+coded (Ok w) = counted (word_measurement document01 w)
+coded (Err f) = refused (number_of f)
 
 -- what decoding, printing and coding give
 abbrev pub answer_of : Asked → Answer

@@ -1,14 +1,13 @@
 -- Why the check of a top field follows the rules of its own bytes.
 -- Assumes nothing.
-use Rattle.std.specs.Prelude.{◌≡◌, refl, Bool, true, false, cond, List, [], ◌∷◌, ◌⊎◌, ℕ, suc, ◌+◌, ◌*◌, ◌≤◌, ◌<◌, ltb, length, take, drop}
+use Rattle.std.specs.Prelude.{◌≡◌, refl, Bool, true, false, cond, List, [], ◌∷◌, ◌⊎◌, ℕ, suc, ◌+◌, ◌*◌, ◌≤◌, ◌<◌, ltb, length, take, drop, Option, Some, None, Result, Ok, Err}
 use Rattle.std.proofs.Common.{sym, ap, ap₂, ◌∙◌, inl, inr, le_refl, arith, ltb-true, ltb-false, length-take-le, take_all, take-take}
 use Rattle.std.proofs.Math.Path.{subst⁻¹}
 use Rattle.std.proofs.Math.Seq.{drop-length}
 use Rattle.refusals.specs.Order.{Follows}
 use Rattle.refusals.specs.Order.{no_rules}
 use Rattle.refusals.specs.declared.Refusal.{Refusal}
-use Rattle.fields.specs.declared.Start.{Start}
-use Rattle.fields.specs.declared.TagLookup.{TagLookup}
+use Rattle.fields.specs.declared.FieldKind.{FieldKind}
 use Rattle.fields.specs.Grammar.{Bytes}
 use Rattle.fields.specs.Answers.{scanned}
 use Rattle.fields.specs.Laws.{StartView, at_end, refused, header}
@@ -17,7 +16,6 @@ use Rattle.fields.specs.Rules.{length_in}
 use Rattle.fields.specs.Run.{Field, Scan, Fields, Refused, ◌and_then◌, inside, step, run_of}
 use Rattle.fields.specs.Start.{kind_of_tag, length_allowed, depth_allowed, judged, start_of}
 use Rattle.sheet.specs.Checked.{checked_of, after_inside, field_from, field_of}
-use Rattle.sheet.specs.declared.FieldChecked.{FieldChecked}
 use Rattle.demands.specs.EntryRules.{own_bytes, passed}
 
 -- ---- the field's own bytes start as what is left of the sheet does
@@ -38,10 +36,10 @@ cut_same n w = by (ltb (length (take n w)) n) refl (ltb (length w) n) refl
         let far : n ≤ length (take n w) = ltb-false _ _ eb in
         absurd (omega arith)
 
-judged_same : (tag : TagLookup) (d n : ℕ) (w : List ℕ) → judged tag n (length (take n w)) d ≡ judged tag n (length w) d
-judged_same TagLookup.Unknown d n w = refl
-judged_same (TagLookup.Known k) d n w =
-    ap (λ (b : Bool). cond b (Start.Refused Refusal.Truncated) (cond (length_allowed k n) (cond (depth_allowed k d) (Start.Field k n) (Start.Refused Refusal.Depth)) (Start.Refused Refusal.Length)))
+judged_same : (tag : Option FieldKind) (d n : ℕ) (w : List ℕ) → judged tag n (length (take n w)) d ≡ judged tag n (length w) d
+judged_same None d n w = refl
+judged_same (Some k) d n w =
+    ap (λ (b : Bool). cond {A = Result (Option (FieldKind × ℕ)) Refusal} b (Err Refusal.Truncated) (cond (length_allowed k n) (cond (depth_allowed k d) (Ok (Some (k, n))) (Err Refusal.Depth)) (Err Refusal.Length)))
     (cut_same n w)
 
 three : (n : ℕ) → 3 + n ≡ suc (suc (suc n))
@@ -59,33 +57,33 @@ nothing_left n w room = ap (λ (m : ℕ). drop m (take n w)) (sym (length-take-l
 -- ---- the two checks agree
 
 -- both refuse alike, or neither refuses
-abbrev pub Alike : Scan → FieldChecked → Type 0
+abbrev pub Alike : Scan → Result (Option ℕ) (Refusal × ℕ) → Type 0
 Alike r x = ((f : Refusal × ℕ) × (r ≡ Refused f.0 f.1) × (x ≡ passed.refuse f)) ⊎ (scanned.accepts r × Follows passed [] x)
 
 module _ (s : List ℕ) (bytes : Bytes s) (at : ℕ) where
-  abbrev field_by : List ℕ → Start → FieldChecked
-  field_by bs Start.End = FieldChecked.End
-  field_by bs (Start.Refused f) = FieldChecked.Refused f at
-  field_by bs (Start.Field k n) = after_inside (checked_of (inside run_of k 1 at (take n (drop 3 bs)))) (at + 3 + n)
+  abbrev field_by : List ℕ → Result (Option (FieldKind × ℕ)) Refusal → Result (Option ℕ) (Refusal × ℕ)
+  field_by bs (Ok None) = Ok None
+  field_by bs (Err f) = Err (f, at)
+  field_by bs (Ok (Some (k, n))) = after_inside (checked_of (inside run_of k 1 at (take n (drop 3 bs)))) (at + 3 + n)
 
   from_0 : 0 + at ≡ at
   from_0 = omega arith
 
-  same_field : (x : Start) → field_from 1 0 at s x ≡ field_by (drop at s) x
-  same_field Start.End = refl
-  same_field (Start.Refused f) = ap (FieldChecked.Refused f) from_0
-  same_field (Start.Field k n) = ap (λ (p : ℕ). after_inside (checked_of (inside run_of k 1 p (take n (drop 3 (drop at s))))) (at + 3 + n)) from_0
+  same_field : (x : Result (Option (FieldKind × ℕ)) Refusal) → field_from 1 0 at s x ≡ field_by (drop at s) x
+  same_field (Ok None) = refl
+  same_field (Err f) = ap (λ z. Err (f, z)) from_0
+  same_field (Ok (Some (k, n))) = ap (λ (p : ℕ). after_inside (checked_of (inside run_of k 1 p (take n (drop 3 (drop at s))))) (at + 3 + n)) from_0
 
   inside-alike : (f : Field) (i : Scan) (next : ℕ) → Alike (Fields (f ∷ []) and_then i and_then Fields []) (after_inside (checked_of i) next)
   inside-alike f (Fields gs) next = inr ((_, refl), no_rules passed _ (_, refl))
   inside-alike f (Refused g q) next = inl ((g, q), refl, refl)
 
-  view_alike : (bs : List ℕ) (x : Start) → StartView 1 bs x → Alike (step run_of 1 at (take (3 + length_in bs) bs) x) (field_by bs x)
+  view_alike : (bs : List ℕ) (x : Result (Option (FieldKind × ℕ)) Refusal) → StartView 1 bs x → Alike (step run_of 1 at (take (3 + length_in bs) bs) x) (field_by bs x)
   view_alike bs x at_end = inr ((_, refl), no_rules passed _ (_, refl))
   view_alike bs x (refused f cs number some) = inl ((f, at), refl, refl)
   view_alike bs x (header t h l w k known room long deep) =
       let n : ℕ = h * 256 + l in
-      subst⁻¹ (λ (r : Scan). Alike r (field_by (t ∷ h ∷ l ∷ w) (Start.Field k n)))
+      subst⁻¹ (λ (r : Scan). Alike r (field_by (t ∷ h ∷ l ∷ w) (Ok (Some (k, n)))))
       (ap₂ (λ (c rest : List ℕ). Fields (record { place = at; depth = 1; kind = k; content = c } ∷ []) and_then inside run_of k 1 at c and_then run_of 1 (at + 3 + n) rest)
       (ap (λ (m : ℕ). take n (drop 3 (take m (t ∷ h ∷ l ∷ w)))) (three n) ∙ take-take n n w (le_refl n))
       (ap (λ (m : ℕ). drop m (take m (t ∷ h ∷ l ∷ w))) (three n) ∙ nothing_left n w room)

@@ -1,6 +1,6 @@
 -- A record's word, or its refusal: 2 for a label of more than 8 bits, 4 if a code or the source is outside its list, else 6 if any other field is.
 -- Assumes nothing.
-use Rattle.std.specs.Prelude.{◌≡◌, Bool, true, false, cond, ◌&&◌, [], ◌∷◌, ◌++◌, ℕ, leb, ltb, ℤ}
+use Rattle.std.specs.Prelude.{◌≡◌, Bool, true, false, cond, ◌&&◌, [], ◌∷◌, ◌++◌, ℕ, leb, ltb, ℤ, Result, Ok, Err}
 use Rattle.std.proofs.Common.{le-leb, arith}
 use Rattle.std.specs.Int.Signed.{mag}
 use Rattle.bits.specs.Layout.{join}
@@ -17,7 +17,6 @@ use Rattle.labels.specs.Label.{label_of}
 use Rattle.labels.specs.Assignment.{Assignment}
 use Rattle.labels.proofs.Assignment.{document01}
 use Rattle.encode.specs.Fields.{fields_of, status_bits}
-use Rattle.encode.specs.declared.Encoded.{Encoded}
 
 -- a status that the word has a code for: a frequency has none for failure
 abbrev pub codes_listed : Body → Bool
@@ -74,15 +73,15 @@ abbrev pub word_as : ℕ → Record → ℕ
 word_as l r = with_parity 31 (lower_as l r)
 
 -- a record under a label of 8 bits
-abbrev pub encode_under : ℕ → Record → Encoded
+abbrev pub encode_under : ℕ → Record → Result ℕ Refusal
 encode_under l r =
     cond (leb r.source 3 && codes_listed r.body)
-    (cond (values_legal r.body) (Encoded.Word (word_as l r)) (Encoded.Refused Refusal.Value))
-    (Encoded.Refused Refusal.Code)
+    (cond (values_legal r.body) (Ok (word_as l r)) (Err Refusal.Value))
+    (Err Refusal.Code)
 
 -- a record under any number: a greater one is no label
-abbrev pub encode_as : ℕ → Record → Encoded
-encode_as l r = cond (leb l 255) (encode_under l r) (Encoded.Refused Refusal.Label)
+abbrev pub encode_as : ℕ → Record → Result ℕ Refusal
+encode_as l r = cond (leb l 255) (encode_under l r) (Err Refusal.Label)
 
 -- under the label of the record's kind, by an assignment of labels
 abbrev pub record_label : Assignment → Record → ℕ
@@ -91,7 +90,7 @@ record_label a r = a.label (kind_of r.body)
 abbrev pub word_of : Assignment → Record → ℕ
 word_of a r = word_as (record_label a r) r
 
-abbrev pub encode_with : Assignment → Record → Encoded
+abbrev pub encode_with : Assignment → Record → Result ℕ Refusal
 encode_with a r = encode_under (record_label a r) r
 
 -- which is a label of 8 bits
@@ -99,13 +98,13 @@ pub encode-with : (a : Assignment) (r : Record) → encode_as (record_label a r)
 encode-with a r = rw (le-leb (record_label a r) 255 (omega (arith, a.short (kind_of r.body))))
 
 -- under document 01's labels
-abbrev pub encode_of : Record → Encoded
+abbrev pub encode_of : Record → Result ℕ Refusal
 encode_of r = encode_with document01 r
 
 -- ---- one step of the order at a time
 
-pub values_broken : (a : Assignment) (r : Record) → (leb r.source 3 && codes_listed r.body) ≡ true → values_legal r.body ≡ false → encode_with a r ≡ Encoded.Refused Refusal.Value
+pub values_broken : (a : Assignment) (r : Record) → (leb r.source 3 && codes_listed r.body) ≡ true → values_legal r.body ≡ false → encode_with a r ≡ Err Refusal.Value
 values_broken a r c v = rw (c, v)
 
-pub all_legal_lem : (a : Assignment) (r : Record) → (leb r.source 3 && codes_listed r.body) ≡ true → values_legal r.body ≡ true → encode_with a r ≡ Encoded.Word (word_of a r)
+pub all_legal_lem : (a : Assignment) (r : Record) → (leb r.source 3 && codes_listed r.body) ≡ true → values_legal r.body ≡ true → encode_with a r ≡ Ok (word_of a r)
 all_legal_lem a r c v = rw (c, v)

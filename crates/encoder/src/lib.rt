@@ -5,7 +5,6 @@ ghost use Rattle.std.specs.Prelude.{◌≡◌, true, ◌<◌};
 ghost use Rattle.statuses.specs.Statuses.{decimal_code, decimal_listed};
 ghost use Rattle.encode.specs.Encode.{codes_listed, narrow, wide, values_legal, word_as, encode_as, encode_of};
 
-use encode::Encoded;
 use frequencies::Band;
 use records::{Body, Record};
 use refusals::Refusal;
@@ -94,25 +93,25 @@ fn word_of(label: u32, record: Record) -> u32
 }
 
 // The word of a record under a label, or its refusal: 2 for a label above 255, then 4, then 6.
-pub fn encode_as(label: u32, record: Record) -> Encoded
+pub fn encode_as(label: u32, record: Record) -> Result<u32, Refusal>
     ensures { result ≡ encode_as label «record» }
 {
     if 255 < label {
-        return Encoded::Refused(Refusal::Label);
+        return Err(Refusal::Label);
     }
     let body = record.body;
     let codes = (record.source <= 3) & codes_listed(body);
     if !codes {
-        return Encoded::Refused(Refusal::Code);
+        return Err(Refusal::Code);
     }
     if !values_legal(body) {
-        return Encoded::Refused(Refusal::Value);
+        return Err(Refusal::Value);
     }
-    Encoded::Word(word_of(label, record))
+    Ok(word_of(label, record))
 }
 
 // The word of a record, or its refusal.
-pub fn encode(record: Record) -> Encoded
+pub fn encode(record: Record) -> Result<u32, Refusal>
     ensures { result ≡ encode_of «record» }
 {
     let body = record.body;

@@ -13,7 +13,7 @@ use standard_input::Chunk;
 use std::io::Read;
 
 // What a piece of the input gives.
-#[derive(Clone, Copy)]
+#[derive(Clone, Copy, PartialEq, Eq, Debug)]
 struct Answered {
     // the progress behind its whole lines
     after: Progress,
@@ -24,7 +24,7 @@ struct Answered {
 }
 
 // Where a run stands.
-#[derive(Clone, Copy)]
+#[derive(Clone, Copy, PartialEq, Eq, Debug)]
 struct State {
     going: bool,
     begun: usize,
@@ -51,30 +51,14 @@ fn put_end(begun: &[u8], before: Progress, text: &mut [u8]) -> usize
     explain_totals::put_totals(text, answered.length, answered.after)
 }
 
-// How many bytes of a begun line are kept.
-fn kept_length(length: usize) -> usize
-    ensures { result ≡ min 202 length }
-{
-    if length < 202 {
-        return length;
-    }
-    202
-}
-
 // Moves the begun line to the buffer's start, as far as it is kept, and gives its length.
 fn keep_begun(buffer: &mut [u8], from: usize, filled: usize) -> usize
     requires { (from ≤ filled) × (filled ≤ length buffer.old) }
     ensures value { result ≡ min 202 (filled - from) }
     ensures buffer_after { take result buffer.new ≡ kept (drop from (take filled buffer.old)) }
 {
-    let length = kept_length(filled - from);
-    let mut i = 0;
-    while i < length {
-        let place = from + i;
-        let byte = buffer[place];
-        buffer[i] = byte;
-        i += 1;
-    }
+    let length = (filled - from).min(202);
+    buffer.copy_within(from..from + length, 0);
     length
 }
 

@@ -9,12 +9,13 @@ ghost use Rattle.answers.specs.Answers.{explained_outcome, pair_text, pair_answe
 ghost use Rattle.answers.specs.Held.{held_text};
 
 use answers::Outcome;
-use explanations::Held;
+use quantities::Quantity;
 use reasons::Reason;
+use refusals::Refusal;
 use typed_pairs::TypedLine;
 
 // Where an answer ends, and what its line is counted as.
-#[derive(Clone, Copy)]
+#[derive(Clone, Copy, PartialEq, Eq, Debug)]
 pub struct Answered {
     pub next: usize,
     pub outcome: Outcome,
@@ -24,19 +25,24 @@ pub struct Answered {
 fn outcome_for(reason: Reason) -> Outcome
     ensures { result ≡ cond (eqb (number_of reason) 1) Outcome.Agrees Outcome.Disagrees }
 {
-    if reason_numbers::number(reason) == 1 {
+    if matches!(reason, Reason::Agrees) {
         return Outcome::Agrees;
     }
     Outcome::Disagrees
 }
 
 // Why a figure and what a word holds agree or do not.
-fn put_held(out: &mut [u8], at: usize, held: Held, millionths: i64) -> Answered
+fn put_held(
+    out: &mut [u8],
+    at: usize,
+    held: Result<(Quantity, i16), Refusal>,
+    millionths: i64,
+) -> Answered
     ensures text { Writes out.old at (held_text held millionths) out.new result.next }
     ensures outcome { result.outcome ≡ explained_outcome (explained_by held millionths) }
 {
     match held {
-        Held::Count(quantity, count) => {
+        Ok((quantity, count)) => {
             let reason = reason_finder::reason_of(quantity, count, millionths);
             let figure = quantities::millionths(quantity, count);
             Answered {
@@ -44,7 +50,7 @@ fn put_held(out: &mut [u8], at: usize, held: Held, millionths: i64) -> Answered
                 outcome: outcome_for(reason),
             }
         }
-        Held::Refused(refusal) => Answered {
+        Err(refusal) => Answered {
             next: number_texts::put_named(out, at, b"refused ", refusals::number(refusal) as u64),
             outcome: Outcome::Refused,
         },

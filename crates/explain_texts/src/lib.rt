@@ -14,10 +14,7 @@ use line_answers::Progress;
 fn one_more(number: u64) -> u64
     ensures { result ≡ one_more number }
 {
-    if number == 18446744073709551615 {
-        return number;
-    }
-    number + 1
+    number.saturating_add(1)
 }
 
 // One line more, of this outcome.
@@ -49,7 +46,7 @@ fn count(before: Progress, outcome: Outcome) -> Progress
 }
 
 // The answers to lines in a row.
-#[derive(Clone, Copy)]
+#[derive(Clone, Copy, PartialEq, Eq, Debug)]
 pub struct AnsweredLines {
     // the progress behind these lines
     pub after: Progress,
@@ -81,11 +78,11 @@ pub fn explain_text(text: &[u8], before: Progress, out: &mut [u8]) -> AnsweredLi
         after: before,
         length: 0,
     };
-    let mut start = 0;
-    while start < text.len() {
-        let line = typed_parts::text_before(&text[start..], b'\n');
+    let mut ahead = text;
+    while !ahead.is_empty() {
+        let line = typed_parts::text_before(ahead, b'\n');
         answered = put_line(out, answered, line);
-        start = text.len() - typed_parts::text_behind(&text[start..], b'\n').len();
+        ahead = typed_parts::text_behind(ahead, b'\n');
     }
     answered
 }

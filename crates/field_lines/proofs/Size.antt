@@ -1,11 +1,10 @@
 -- How long the text is at most: a line has at most six bytes for each byte of the sheet that is its field's own.
 -- Assumes nothing.
 use Rattle.std.specs.Prelude.{◌≡◌, refl, Bool, true, false, List, ℕ, ◌-◌, ◌≤◌, ltb, length}
-use Rattle.std.proofs.Common.{sym, ◌∙◌, arith, le-ltb, ltb-true, ltb-false}
+use Rattle.std.proofs.Common.{sym, ◌∙◌, arith, ltb-true, ltb-false}
 use Rattle.refusals.specs.declared.Refusal.{Refusal}
 use Rattle.fields.specs.Run.{Scan, Fields, Refused, sheet_of}
 use Rattle.fields.proofs.Limits.{longer, sheet_fields}
-use Rattle.text.specs.Writing.{last}
 use Rattle.lines.specs.Lengths.{refusal_line_length}
 use Rattle.listing.specs.Size.{fields_owned, refusal_short}
 use Rattle.field_lines.specs.FieldLines.{lines_of, fields_text, text_of}
@@ -21,9 +20,3 @@ text_short s = by (sheet_of s) refl
         at : (b : Bool) → ltb 32768 (length s) ≡ b → length (lines_of fs) ≤ longest
         at true l = let clash : Refused Refusal.Oversize 0 ≡ Fields fs = sym (longer s (ltb-true 32768 (length s) l)) ∙ e in let z : ◌≡◌ {A = ℕ} 0 1 = cc in absurd (omega arith)
         at false l = omega (arith, lines_short (length s) (ltb-false 32768 (length s) l) fs (sheet_fields s fs e), fields_owned s fs e)
-
-pub text_counted : (s : List ℕ) → length (text_of s) ≤ last
-text_counted s = omega (arith, text_short s)
-
-pub never_longer : (s : List ℕ) (room : ℕ) → longest ≤ room → false ≡ ltb room (length (text_of s))
-never_longer s room h = sym (le-ltb room (length (text_of s)) (omega (arith, text_short s)))

@@ -1,12 +1,12 @@
 -- The text on its way: what is written so far and the lines of the fields ahead make up the sheet's (walk/specs/Fold.antt).
 -- Assumes nothing.
-use Rattle.std.specs.Prelude.{◌≡◌, List, [], ◌++◌, ℕ, ◌+◌, ◌-◌, ◌≤◌, length, take, drop}
+use Rattle.std.specs.Prelude.{◌≡◌, List, [], ◌++◌, ℕ, ◌+◌, ◌-◌, ◌≤◌, length, take, drop, Result, Some, Ok}
 use Rattle.std.proofs.Common.{sym, ap, ap₂, ◌∙◌, append_assoc, arith, length-drop, length-take-le}
 use Rattle.fields.specs.declared.FieldKind.{FieldKind}
 use Rattle.fields.specs.Run.{Scan, Fields, Refused}
-use Rattle.walk.specs.declared.Walk.{Walk}
+use Rattle.walk.specs.declared.Position.{Position}
+use Rattle.refusals.specs.declared.Refusal.{Refusal}
 use Rattle.walk.specs.declared.FieldAt.{FieldAt}
-use Rattle.walk.specs.declared.Given.{Given}
 use Rattle.walk.specs.declared.WalkStep.{WalkStep}
 use Rattle.walk.specs.Step.{start_walk, step_of}
 use Rattle.walk.specs.Rest.{field_of}
@@ -25,17 +25,17 @@ listed done (Fields fs) = done ++ lines_of fs
 listed done (Refused f p) = done ++ refusal_line f p
 
 -- a loop that has stored its text
-pub record Going (s out₀ out : List ℕ) (w : Walk) (at : ℕ) : Type 0 where
+pub record Going (s out₀ out : List ℕ) (w : Result Position (Refusal × ℕ)) (at : ℕ) : Type 0 where
   pub done : List ℕ
   pub loop : Loop listed s [] w done
   pub written : Writes out₀ 0 done out at
 
-pub going_starts : (s out : List ℕ) (w : Walk) → length out ≤ last → w ≡ start_walk s → Going s out out w 0
+pub going_starts : (s out : List ℕ) (w : Result Position (Refusal × ℕ)) → length out ≤ last → w ≡ start_walk s → Going s out out w 0
 going_starts s out w short e = record { done = []; loop = loop_starts e; written = empty short (omega arith) }
 
-module _ (s out₀ out : List ℕ) (w : Walk) (at : ℕ) (r : WalkStep) (g : Going s out₀ out w at) (found : r ≡ step_of s w) where
+module _ (s out₀ out : List ℕ) (w : Result Position (Refusal × ℕ)) (at : ℕ) (r : WalkStep) (g : Going s out₀ out w at) (found : r ≡ step_of s w) where
   -- a line takes it to the next walk
-  pub going_on : (a : FieldAt) (out' : List ℕ) (n : ℕ) → r.given ≡ Given.Field a → Writes out at (line_of (field_of s a)) out' n → Going s out₀ out' r.next n
+  pub going_on : (a : FieldAt) (out' : List ℕ) (n : ℕ) → r.given ≡ Ok (Some a) → Writes out at (line_of (field_of s a)) out' n → Going s out₀ out' r.next n
   going_on a out' n told h =
       let line : List ℕ = line_of (field_of s a) in
       record {

@@ -1,13 +1,12 @@
 -- How long the text is at most: a line has at most six bytes for each byte of the sheet that is its field's own.
 -- Assumes nothing.
-use Rattle.std.specs.Prelude.{◌≡◌, refl, Bool, true, false, cond, List, [], ◌∷◌, ◌++◌, ℕ, ◌*◌, ◌-◌, ◌^◌, ◌≤◌, ◌<◌, eqb, ltb, pos, negsuc, nat_abs, length, drop, get_or}
+use Rattle.std.specs.Prelude.{◌≡◌, refl, Bool, true, false, cond, List, [], ◌∷◌, ◌++◌, ℕ, ◌*◌, ◌-◌, ◌^◌, ◌≤◌, ◌<◌, eqb, ltb, pos, negsuc, nat_abs, length, drop, get_or, Ok, Err}
 use Rattle.std.proofs.Common.{zero-le, arith, eqb-true, ltb-true, ltb-false, length-append}
 use Rattle.bits.specs.Complement.{signed}
 use Rattle.refusals.specs.declared.Refusal.{Refusal}
 use Rattle.fields.specs.declared.FieldKind.{FieldKind}
 use Rattle.fields.specs.Run.{Field, Refused}
 use Rattle.fields.specs.Limits.{Placed, Every, nothing, ◌also◌}
-use Rattle.contents.specs.declared.FigureIn.{FigureIn}
 use Rattle.contents.specs.BigEndian.{value_of}
 use Rattle.text.specs.Ascii.{ascii}
 use Rattle.text.specs.Writing.{last}
@@ -45,7 +44,7 @@ figure_words_short label d =
     omega (arith, length-append (octal3 label ++ ascii " ") (signed_fixed 6 (signed 64 d)), length-append (octal3 label) (ascii " "), padded-length 8 3 label)
 
 figure_by : (c : List ℕ) (label d : ℕ) (b : Bool) → eqb (length c) 9 ≡ b
-    → length (figure_words (cond b (FigureIn.Figure label (signed 64 d)) (FigureIn.Refused Refusal.Length))) ≤ 6 * length c
+    → length (figure_words (cond b (Ok (label, signed 64 d)) (Err Refusal.Length))) ≤ 6 * length c
 figure_by c label d true e = let nine : length c ≡ 9 = eqb-true (length c) 9 e in omega (arith, figure_words_short label d)
 figure_by c label d false e = zero-le
 

@@ -1,15 +1,14 @@
 // The fields of a sheet, a line for each, as text in a buffer.
 #![tactic(auto)]
 
-ghost use Rattle.std.specs.Prelude.{◌≡◌, ◌+◌, ◌≤◌, ltb, length};
+ghost use Rattle.std.specs.Prelude.{◌≡◌, ◌+◌, ◌≤◌, length};
 ghost use Rattle.walk.specs.Rest.{field_of};
 ghost use Rattle.text.specs.Writing.{Writes};
 ghost use Rattle.listing.specs.Listing.{listed_of, buffer_of};
 ghost use Rattle.field_lines.specs.FieldLines.{place_text, head_text, line_of, text_of};
 
-use listing::Listed;
 use refusals::Refusal;
-use walk::{FieldAt, Given};
+use walk::FieldAt;
 
 // The place and the depth, with a blank behind each.
 fn put_place(out: &mut [u8], at: usize, place: usize, depth: u8) -> usize
@@ -52,17 +51,16 @@ fn put_lines(out: &mut [u8], sheet: &[u8]) -> usize
     let mut at = 0;
     loop {
         let step = walker::step(sheet, walk);
-        let given = step.given;
-        match given {
-            Given::Field(field) => {
+        match step.given {
+            Ok(given) => {
+                let Some(field) = given else {
+                    return at;
+                };
                 at = put_line(out, at, sheet, field);
                 walk = step.next;
             }
-            Given::Refused(refusal, place) => {
+            Err((refusal, place)) => {
                 return lines::put_refusal_line(out, at, refusal, place);
-            }
-            Given::End => {
-                return at;
             }
         }
     }
@@ -71,31 +69,10 @@ fn put_lines(out: &mut [u8], sheet: &[u8]) -> usize
 // No sheet's text has more bytes.
 const TEXT_LIMIT: usize = 196608;
 
-// The length of the text: it is written, and one byte of it stored.
-fn text_length(sheet: &[u8]) -> usize
-    ensures { result ≡ length (text_of sheet.now) }
-{
-    let mut first = [0u8; 1];
-    put_lines(&mut first, sheet)
-}
-
-// Whether the text has more bytes than this. It is measured only where some texts do.
-fn is_longer(sheet: &[u8], room: usize) -> bool
-    ensures { result ≡ ltb room (length (text_of sheet.now)) }
-{
-    if room < TEXT_LIMIT {
-        return room < text_length(sheet);
-    }
-    false
-}
-
 // Writes a line for each field of a sheet, or its refusal, into a buffer: the text's length, or 13 with the buffer as it was.
-pub fn list_fields(sheet: &[u8], out: &mut [u8]) -> Listed
+pub fn list_fields(sheet: &[u8], out: &mut [u8]) -> Result<usize, Refusal>
     ensures answer { result ≡ listed_of (text_of sheet.now) out.old }
     ensures content { out.new ≡ buffer_of (text_of sheet.now) out.old }
 {
-    if is_longer(sheet, out.len()) {
-        return Listed::Refused(Refusal::Room);
-    }
-    Listed::Length(put_lines(out, sheet))
+    listing::put_whole(TEXT_LIMIT, |buffer| put_lines(buffer, sheet), out)
 }

@@ -2,46 +2,32 @@
 #![tactic(auto)]
 
 ghost use Rattle.std.specs.Prelude.{◌≡◌, ◌++◌, ◌+◌, ◌≤◌, ◌<◌, length, take, drop};
-ghost use Rattle.std.proofs.Math.Seq.{paste};
 ghost use Rattle.fields.specs.Start.{tagged};
 ghost use Rattle.writer.specs.Write.{answer_of, put};
 
 use refusals::Refusal;
-use writer::Written;
 
 // The most bytes a sheet may have.
 const SHEET_LIMIT: usize = 32768;
 
 // Whether a content of this length can stand at a place of a buffer of `room` bytes.
-pub fn end_of(room: usize, place: usize, length: usize) -> Written
+pub fn end_of(room: usize, place: usize, length: usize) -> Result<usize, (Refusal, usize)>
     ensures { result ≡ answer_of room place length }
 {
     if SHEET_LIMIT < place {
-        return Written::Refused(Refusal::Oversize, 0);
+        return Err((Refusal::Oversize, 0));
     }
     if SHEET_LIMIT < length {
-        return Written::Refused(Refusal::Oversize, 0);
+        return Err((Refusal::Oversize, 0));
     }
     let end = place + 3 + length;
     if SHEET_LIMIT < end {
-        return Written::Refused(Refusal::Oversize, 0);
+        return Err((Refusal::Oversize, 0));
     }
     if room < end {
-        return Written::Refused(Refusal::Room, 0);
+        return Err((Refusal::Room, 0));
     }
-    Written::End(end)
-}
-
-// Copies the content into the buffer from a place on.
-fn copy_to(out: &mut [u8], at: usize, content: &[u8])
-    requires { at + length content.now ≤ length out.old }
-    ensures { out.new ≡ paste out.old at content.now (length content.now) }
-{
-    let mut i = 0;
-    while i < content.len() {
-        out[at + i] = content[i];
-        i += 1;
-    }
+    Ok(end)
 }
 
 // Stores a tag, a length, high byte first, and the content.
@@ -53,19 +39,20 @@ fn store(out: &mut [u8], place: usize, tag: u8, content: &[u8])
     out[place] = tag;
     out[place + 1] = (length / 256) as u8;
     out[place + 2] = (length % 256) as u8;
-    copy_to(out, place + 3, content);
+    out[place + 3..place + 3 + length].copy_from_slice(content);
 }
 
 // Stores a tag, a length and the content, where they fit.
-pub fn put_field(out: &mut [u8], place: usize, tag: u8, content: &[u8]) -> Written
+pub fn put_field(
+    out: &mut [u8],
+    place: usize,
+    tag: u8,
+    content: &[u8],
+) -> Result<usize, (Refusal, usize)>
     ensures value { result ≡ (put out.old place tag content.now).answer }
     ensures out_after { out.new ≡ (put out.old place tag content.now).buffer }
 {
-    match end_of(out.len(), place, content.len()) {
-        Written::End(end) => {
-            store(out, place, tag, content);
-            Written::End(end)
-        }
-        Written::Refused(refusal, offset) => Written::Refused(refusal, offset),
-    }
+    let end = end_of(out.len(), place, content.len())?;
+    store(out, place, tag, content);
+    Ok(end)
 }

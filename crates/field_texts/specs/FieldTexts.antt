@@ -1,9 +1,9 @@
 -- The content of a field as text: a word in hex, a figure's label and number, a note's text.
 -- Assumes nothing.
-use Rattle.std.specs.Prelude.{◌≡◌, refl, Bool, true, false, not, cond, ◌&&◌, List, [], ◌∷◌, ◌++◌, ℕ, zero, suc, ◌+◌, ◌<◌, eqb, ltb, length, take, get_or}
+use Rattle.std.specs.Prelude.{◌≡◌, refl, Bool, true, false, not, cond, ◌&&◌, List, [], ◌∷◌, ◌++◌, ℕ, zero, suc, ◌+◌, ◌<◌, eqb, ltb, length, take, get_or, Result, Ok, Err, ℤ}
 use Rattle.std.proofs.Common.{sym, ap, ◌∙◌, append-nil, append_assoc, arith}
 use Rattle.fields.specs.declared.FieldKind.{FieldKind}
-use Rattle.contents.specs.declared.FigureIn.{FigureIn}
+use Rattle.refusals.specs.declared.Refusal.{Refusal}
 use Rattle.contents.specs.Contents.{figure_in}
 use Rattle.text.specs.Ascii.{ascii}
 use Rattle.hex_texts.specs.HexTexts.{hex_byte}
@@ -35,9 +35,9 @@ note_text bs = each note_byte bs
 -- ---- figures
 
 -- the label in three octal digits and the number with six decimals
-abbrev pub figure_words : FigureIn → List ℕ
-figure_words (FigureIn.Figure label millionths) = octal3 label ++ ascii " " ++ signed_fixed 6 millionths
-figure_words (FigureIn.Refused f) = []
+abbrev pub figure_words : Result (ℕ × ℤ) Refusal → List ℕ
+figure_words (Ok (label, millionths)) = octal3 label ++ ascii " " ++ signed_fixed 6 millionths
+figure_words (Err f) = []
 
 -- (a figure field of a sheet always has its nine bytes)
 abbrev pub figure_text : List ℕ → List ℕ

@@ -1,8 +1,8 @@
 -- What the proofs of `Theorems` cite: the digits of bytes, a byte of a note by the test of it, and texts of printable ASCII joined.
 -- Assumes nothing.
-use Rattle.std.specs.Prelude.{◌≡◌, refl, Bool, true, false, cond, List, [], ◌∷◌, ◌++◌, ℕ, suc, ◌+◌, ◌*◌, ◌/◌, ◌%◌, ◌^◌, ◌≤◌, ◌<◌, ltb, ℤ, pos, negsuc, length}
+use Rattle.std.specs.Prelude.{◌≡◌, refl, Bool, true, false, cond, List, [], ◌∷◌, ◌++◌, ℕ, suc, ◌+◌, ◌*◌, ◌/◌, ◌%◌, ◌^◌, ◌≤◌, ◌<◌, ltb, ℤ, pos, negsuc, length, Result, Ok, Err}
 use Rattle.std.proofs.Common.{sym, ap, ◌∙◌, add-mul, mul_assoc, arith, pow-add}
-use Rattle.contents.specs.declared.FigureIn.{FigureIn}
+use Rattle.refusals.specs.declared.Refusal.{Refusal}
 use Rattle.contents.specs.BigEndian.{value_of, Bytes}
 use Rattle.text.specs.Ascii.{ascii}
 use Rattle.hex_texts.specs.HexTexts.{hex_digit, hex_byte}
@@ -75,9 +75,9 @@ signed_printable : (z : ℤ) → Printable (signed_fixed 6 z)
 signed_printable (pos n) = fixed_printable n
 signed_printable (negsuc n) = ((omega arith, omega arith), fixed_printable (suc n))
 
-pub figure_printable : (f : FigureIn) → Printable (figure_words f)
-figure_printable (FigureIn.Figure label millionths) =
+pub figure_printable : (f : Result (ℕ × ℤ) Refusal) → Printable (figure_words f)
+figure_printable (Ok (label, millionths)) =
     printable_both (octal3 label ++ ascii " ") (signed_fixed 6 millionths)
     (printable_both (octal3 label) (ascii " ") (digits_printable 8 (octal3 label) (omega arith) (padded-digits 8 3 label (omega arith))) blank_printable)
     (signed_printable millionths)
-figure_printable (FigureIn.Refused f) = tt
+figure_printable (Err f) = tt

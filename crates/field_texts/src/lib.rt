@@ -4,7 +4,6 @@
 ghost use Rattle.text.specs.Writing.{Writes};
 ghost use Rattle.field_texts.specs.FieldTexts.{hex_bytes, note_byte, note_text, figure_text, content_text};
 
-use contents::FigureIn;
 use fields::FieldKind;
 
 // Bytes in hex, two digits each.
@@ -12,10 +11,8 @@ fn put_hex(out: &mut [u8], at: usize, bytes: &[u8]) -> usize
     ensures { Writes out.old at (hex_bytes bytes.now) out.new result }
 {
     let mut next = at;
-    let mut i = 0;
-    while i < bytes.len() {
-        next = hex_texts::put_hex_byte(out, next, bytes[i]);
-        i += 1;
+    for &byte in bytes {
+        next = hex_texts::put_hex_byte(out, next, byte);
     }
     next
 }
@@ -36,10 +33,8 @@ fn put_note(out: &mut [u8], at: usize, bytes: &[u8]) -> usize
     ensures { Writes out.old at (note_text bytes.now) out.new result }
 {
     let mut next = at;
-    let mut i = 0;
-    while i < bytes.len() {
-        next = put_note_byte(out, next, bytes[i]);
-        i += 1;
+    for &byte in bytes {
+        next = put_note_byte(out, next, byte);
     }
     next
 }
@@ -49,12 +44,12 @@ fn put_figure(out: &mut [u8], at: usize, content: &[u8]) -> usize
     ensures { Writes out.old at (figure_text content.now) out.new result }
 {
     match content_values::figure_in(content) {
-        FigureIn::Figure(label, millionths) => {
+        Ok((label, millionths)) => {
             let blank = number_texts::put_octal3(out, at, label as u32);
             let number = text::put_byte(out, blank, 32);
             number_texts::put_millionths(out, number, millionths)
         }
-        FigureIn::Refused(_) => at,
+        Err(_) => at,
     }
 }
 

@@ -6,11 +6,10 @@ ghost use Rattle.fields.specs.declared.FieldKind.{FieldKind};
 ghost use Rattle.contents.specs.Contents.{word_bytes, figure_bytes};
 ghost use Rattle.writer.specs.Write.{write_of, group_of};
 
-use sheet::Checked;
-use writer::Written;
+use refusals::Refusal;
 
 // Writes a word field.
-pub fn write_word(out: &mut [u8], place: usize, word: u32) -> Written
+pub fn write_word(out: &mut [u8], place: usize, word: u32) -> Result<usize, (Refusal, usize)>
     ensures value { result ≡ (write_of out.old place FieldKind.Word (word_bytes word)).answer }
     ensures out_after { out.new ≡ (write_of out.old place FieldKind.Word (word_bytes word)).buffer }
 {
@@ -19,7 +18,12 @@ pub fn write_word(out: &mut [u8], place: usize, word: u32) -> Written
 }
 
 // Writes a figure field: a label and millionths.
-pub fn write_figure(out: &mut [u8], place: usize, label: u8, millionths: i64) -> Written
+pub fn write_figure(
+    out: &mut [u8],
+    place: usize,
+    label: u8,
+    millionths: i64,
+) -> Result<usize, (Refusal, usize)>
     ensures value { result ≡ (write_of out.old place FieldKind.Figure (figure_bytes label millionths)).answer }
     ensures out_after { out.new ≡ (write_of out.old place FieldKind.Figure (figure_bytes label millionths)).buffer }
 {
@@ -28,7 +32,7 @@ pub fn write_figure(out: &mut [u8], place: usize, label: u8, millionths: i64) ->
 }
 
 // Writes a note field.
-pub fn write_note(out: &mut [u8], place: usize, text: &[u8]) -> Written
+pub fn write_note(out: &mut [u8], place: usize, text: &[u8]) -> Result<usize, (Refusal, usize)>
     ensures value { result ≡ (write_of out.old place FieldKind.Note text.now).answer }
     ensures out_after { out.new ≡ (write_of out.old place FieldKind.Note text.now).buffer }
 {
@@ -36,12 +40,10 @@ pub fn write_note(out: &mut [u8], place: usize, text: &[u8]) -> Written
 }
 
 // Writes a group field of a run of bytes, which is checked first as the inside of a top group.
-pub fn write_group(out: &mut [u8], place: usize, run: &[u8]) -> Written
+pub fn write_group(out: &mut [u8], place: usize, run: &[u8]) -> Result<usize, (Refusal, usize)>
     ensures value { result ≡ (group_of out.old place run.now).answer }
     ensures out_after { out.new ≡ (group_of out.old place run.now).buffer }
 {
-    match sheet::check_inside(run) {
-        Checked::Legal => field_store::put_field(out, place, 0x20, run),
-        Checked::Refused(refusal, offset) => Written::Refused(refusal, offset),
-    }
+    sheet::check_inside(run)?;
+    field_store::put_field(out, place, 0x20, run)
 }

@@ -1,10 +1,10 @@
 -- A legal run with another after it: the fields of the first, then what the second is.
 -- Assumes nothing.
-use Rattle.std.specs.Prelude.{◌≡◌, refl, List, [], ◌∷◌, ◌++◌, ℕ, zero, suc, ◌+◌, ◌*◌, ◌-◌, ◌≤◌, length, take, drop}
+use Rattle.std.specs.Prelude.{◌≡◌, refl, List, [], ◌∷◌, ◌++◌, ℕ, zero, suc, ◌+◌, ◌*◌, ◌-◌, ◌≤◌, length, take, drop, Option, Some, None, Result, Ok, Err}
 use Rattle.std.proofs.Common.{sym, ap, ap₂, subst, ◌∙◌, le_refl, add-zero, arith, length-append, length-drop}
 use Rattle.std.proofs.lemmas.List.{take-append-le, drop-append-le}
 use Rattle.fields.specs.declared.FieldKind.{FieldKind}
-use Rattle.fields.specs.declared.Start.{Start}
+use Rattle.refusals.specs.declared.Refusal.{Refusal}
 use Rattle.fields.specs.Start.{kind_of_tag, judged, start_of}
 use Rattle.fields.specs.Run.{Field, Scan, Fields, Refused, ◌and_then◌, inside, step, run_of}
 use Rattle.fields.proofs.Laws.{whole-field, end_empty, run_step}
@@ -12,7 +12,7 @@ use Rattle.fields.specs.AndThenLemmas.{nothing-first, regroup}
 use Rattle.fields.specs.Append.{LegalRun, second_legal, judged_more, Joins}
 
 -- a field stands at the start, whatever follows the run
-pub start_more : (d : ℕ) (a b : List ℕ) (k : FieldKind) (n : ℕ) → start_of d a ≡ Start.Field k n → start_of d (a ++ b) ≡ Start.Field k n
+pub start_more : (d : ℕ) (a b : List ℕ) (k : FieldKind) (n : ℕ) → start_of d a ≡ Ok (Some (k, n)) → start_of d (a ++ b) ≡ Ok (Some (k, n))
 start_more d [] b k n e = let z : ◌≡◌ {A = ℕ} 0 1 = cc in absurd (omega arith)
 start_more d (t ∷ []) b k n e = let z : ◌≡◌ {A = ℕ} 0 1 = cc in absurd (omega arith)
 start_more d (t ∷ h ∷ []) b k n e = let z : ◌≡◌ {A = ℕ} 0 1 = cc in absurd (omega arith)
@@ -25,19 +25,19 @@ joins_empty d p b =
     sym (ap₂ ◌and_then◌ (run_step d p []) (ap (λ (q : ℕ). run_of d q b) (add-zero p)) ∙ nothing-first (run_of d p b))
 
 -- one step, if the rest of the run joins
-joins_step : (d p : ℕ) (a b : List ℕ) (s : Start) → start_of d a ≡ s → LegalRun (run_of d p a)
+joins_step : (d p : ℕ) (a b : List ℕ) (s : Result (Option (FieldKind × ℕ)) Refusal) → start_of d a ≡ s → LegalRun (run_of d p a)
     → ((k : FieldKind) (n : ℕ) → 3 + n ≤ length a → LegalRun (run_of d (p + 3 + n) (drop (3 + n) a)) → Joins d (p + 3 + n) (drop (3 + n) a) b)
     → Joins d p a b
-joins_step d p a b Start.End e legal rest = subst (λ (c : List ℕ). Joins d p c b) (sym (end_empty d a e)) (joins_empty d p b)
-joins_step d p a b (Start.Refused f) e legal rest = absurd (subst LegalRun (run_step d p a ∙ ap (step run_of d p a) e) legal)
-joins_step d p a b (Start.Field k n) e legal rest =
+joins_step d p a b (Ok None) e legal rest = subst (λ (c : List ℕ). Joins d p c b) (sym (end_empty d a e)) (joins_empty d p b)
+joins_step d p a b (Err f) e legal rest = absurd (subst LegalRun (run_step d p a ∙ ap (step run_of d p a) e) legal)
+joins_step d p a b (Ok (Some (k, n))) e legal rest =
     let room : 3 + n ≤ length a = (whole-field d a k n e).room in
     let left : length (drop 3 a) ≡ length a - 3 = length-drop 3 a in
     let short : length (drop (3 + n) a) ≡ length a - (3 + n) = length-drop (3 + n) a in
     let content : take n (drop 3 (a ++ b)) ≡ take n (drop 3 a) =
     ap (take n) (drop-append-le 3 a b (omega arith)) ∙ take-append-le n (drop 3 a) b (omega arith) in
     let after : drop (3 + n) (a ++ b) ≡ drop (3 + n) a ++ b = drop-append-le (3 + n) a b room in
-    let one : run_of d p a ≡ step run_of d p a (Start.Field k n) = run_step d p a ∙ ap (step run_of d p a) e in
+    let one : run_of d p a ≡ step run_of d p a (Ok (Some (k, n))) = run_step d p a ∙ ap (step run_of d p a) e in
     let f : Scan = Fields (record { place = p; depth = d; kind = k; content = take n (drop 3 a) } ∷ []) in
     let i : Scan = inside run_of k d p (take n (drop 3 a)) in
     let r : Scan = run_of d (p + 3 + n) (drop (3 + n) a) in

@@ -1,12 +1,10 @@
 -- A legal run of bytes is exactly what a list of fields writes: tag, length high byte first, content, and in a group the bytes of the fields it holds.
 -- Assumes nothing.
-use Rattle.std.specs.Prelude.{◌≡◌, refl, Bool, true, false, cond, ◌||◌, List, [], ◌∷◌, ◌++◌, ℕ, zero, suc, ◌+◌, ◌/◌, ◌%◌, ◌≤◌, ◌<◌, ltb, length, take, drop}
+use Rattle.std.specs.Prelude.{◌≡◌, refl, Bool, true, false, cond, ◌||◌, List, [], ◌∷◌, ◌++◌, ℕ, zero, suc, ◌+◌, ◌/◌, ◌%◌, ◌≤◌, ◌<◌, ltb, length, take, drop, Option, Some, None, Result, Ok, Err}
 use Rattle.std.proofs.Common.{sym, ap, ap₂, subst, ◌∙◌, append-nil, div-add-mod', le_refl, arith, ltb-true, ltb-false, lt-ltb, length-append, take-append-drop, length-take-le, drop-drop}
 use Rattle.std.proofs.Math.Seq.{take-append_seam, drop-append_seam}
 use Rattle.refusals.specs.declared.Refusal.{Refusal}
 use Rattle.fields.specs.declared.FieldKind.{FieldKind}
-use Rattle.fields.specs.declared.TagLookup.{TagLookup}
-use Rattle.fields.specs.declared.Start.{Start}
 use Rattle.fields.specs.Start.{tag_of, is_leaf, field_bytes, length_allowed, depth_allowed, judged, start_of}
 use Rattle.fields.specs.Run.{Field, Scan, Fields, Refused, ◌and_then◌, inside, step, scan, run_of, sheet_of}
 use Rattle.fields.specs.Laws.{StartView, header}
@@ -16,10 +14,10 @@ use Rattle.fields.proofs.Limits.{longer, not_longer}
 use Rattle.fields.specs.Grammar.{Trees, bytes_of, fields_of, Bytes, Allowed, known-tag, judged-field, bytes_append, bytes_take, bytes_drop, tag-known, FirstField, Both, both, WrittenBy, Reads, no_more, leaf, group, no_byte, byte, no_more_allowed, leaf_allowed, group_allowed}
 
 module _ (d p : ℕ) (k : FieldKind) (c rest : List ℕ) (long : length_allowed k (length c) ≡ true) (deep : depth_allowed k d ≡ true) where
-  start-written : start_of d (field_bytes k c ++ rest) ≡ Start.Field k (length c)
+  start-written : start_of d (field_bytes k c ++ rest) ≡ Ok (Some (k, length c))
   start-written =
       let all : length (c ++ rest) ≡ length c + length rest = length-append c rest in
-      ap₂ (λ (t : TagLookup) (n : ℕ). judged t n (length (c ++ rest)) d) (known-tag k) (div-add-mod' (length c) 256)
+      ap₂ (λ (t : Option FieldKind) (n : ℕ). judged t n (length (c ++ rest)) d) (known-tag k) (div-add-mod' (length c) 256)
       ∙ judged-field k (length c) (length (c ++ rest)) d (omega arith) long deep
 
   -- Its run is the field, its inside, then the rest.
@@ -78,7 +76,7 @@ written_bytes d (leaf k c ts) (leaf_allowed plain long short b rest) = bytes_wri
 written_bytes d (group us ts) (group_allowed deep short inner rest) =
     bytes_written FieldKind.Group (bytes_of us) (bytes_of ts) short (written_bytes (suc d) us inner) (written_bytes d ts rest)
 
-pub first_field : (d : ℕ) (bs : List ℕ) (k : FieldKind) (n : ℕ) → Bytes bs → StartView d bs (Start.Field k n) → FirstField d k bs
+pub first_field : (d : ℕ) (bs : List ℕ) (k : FieldKind) (n : ℕ) → Bytes bs → StartView d bs (Ok (Some (k, n))) → FirstField d k bs
 first_field d _ k n no_byte v = elim v [ ]
 first_field d _ k n (byte {b = t} ht no_byte) v = elim v [ ]
 first_field d _ k n (byte {b = t} ht (byte hh no_byte)) v = elim v [ ]
@@ -150,10 +148,10 @@ reads_step m shorter d p bs h b fs e = by (start_of d bs) refl (start_view d bs)
         of_kind FieldKind.Group f parts w h =
             read_group d p f.content f.rest fs f.short f.deep parts (shorter (suc d) (p + 3) f.content h f.content_bytes parts.inner parts.inside_legal) w
 
-    by : (s : Start) → start_of d bs ≡ s → StartView d bs s → step run_of d p bs s ≡ Fields fs → WrittenBy d p bs fs
-    by Start.End s v e = record { trees = no_more; allowed = no_more_allowed; bytes = sym (end_empty d bs s); fields = cc }
-    by (Start.Refused f) s v e = let z : ◌≡◌ {A = ℕ} 0 1 = cc in absurd (omega arith)
-    by (Start.Field k n) s v e = field k (first_field d bs k n b v)
+    by : (s : Result (Option (FieldKind × ℕ)) Refusal) → start_of d bs ≡ s → StartView d bs s → step run_of d p bs s ≡ Fields fs → WrittenBy d p bs fs
+    by (Ok None) s v e = record { trees = no_more; allowed = no_more_allowed; bytes = sym (end_empty d bs s); fields = cc }
+    by (Err f) s v e = let z : ◌≡◌ {A = ℕ} 0 1 = cc in absurd (omega arith)
+    by (Ok (Some (k, n))) s v e = field k (first_field d bs k n b v)
 
 reads : (m : ℕ) → Reads m
 reads zero d p [] h b fs e = record { trees = no_more; allowed = no_more_allowed; bytes = refl; fields = cc (sym (run_step d p []) ∙ e) }

@@ -1,11 +1,9 @@
 -- The laws of a run of bytes that others cite: what its start says, and one step without the number of steps.
 -- Assumes nothing.
-use Rattle.std.specs.Prelude.{◌≡◌, refl, Bool, true, false, cond, List, [], ◌∷◌, ℕ, zero, suc, ◌+◌, ◌*◌, ◌-◌, ◌≤◌, ltb, length, take, drop}
+use Rattle.std.specs.Prelude.{◌≡◌, refl, Bool, true, false, cond, List, [], ◌∷◌, ℕ, zero, suc, ◌+◌, ◌*◌, ◌-◌, ◌≤◌, ltb, length, take, drop, Option, Some, None, Result, Ok, Err}
 use Rattle.std.proofs.Common.{ap₂, subst, arith, ltb-false, le_refl, length-drop, length-take-le}
 use Rattle.refusals.specs.declared.Refusal.{Refusal}
 use Rattle.fields.specs.declared.FieldKind.{FieldKind}
-use Rattle.fields.specs.declared.TagLookup.{TagLookup}
-use Rattle.fields.specs.declared.Start.{Start}
 use Rattle.fields.specs.Start.{kind_of_tag, length_allowed, depth_allowed, judged, start_of}
 use Rattle.fields.specs.Run.{Scan, Fields, ◌and_then◌, inside, step, scan, run_of}
 use Rattle.fields.specs.Laws.{StartView, WholeField, at_end, refused, header}
@@ -16,40 +14,40 @@ start_view d (t ∷ []) = refused Refusal.Truncated (t ∷ []) (omega arith, ome
 start_view d (t ∷ h ∷ []) = refused Refusal.Truncated (t ∷ h ∷ []) (omega arith, omega arith) (omega arith)
 start_view d (t ∷ h ∷ l ∷ w) = by (kind_of_tag t) refl
   where
-    known : (k : FieldKind) → kind_of_tag t ≡ TagLookup.Known k
+    known : (k : FieldKind) → kind_of_tag t ≡ Some k
         → (a : Bool) → ltb (length w) (h * 256 + l) ≡ a → (b : Bool) → length_allowed k (h * 256 + l) ≡ b → (c : Bool) → depth_allowed k d ≡ c
         → StartView d (t ∷ h ∷ l ∷ w)
-        (cond a (Start.Refused Refusal.Truncated) (cond b (cond c (Start.Field k (h * 256 + l)) (Start.Refused Refusal.Depth)) (Start.Refused Refusal.Length)))
+        (cond {A = Result (Option (FieldKind × ℕ)) Refusal} a (Err Refusal.Truncated) (cond b (cond c (Ok (Some (k, h * 256 + l))) (Err Refusal.Depth)) (Err Refusal.Length)))
     known k e true ea b eb c ec = refused Refusal.Truncated (t ∷ h ∷ l ∷ w) (omega arith, omega arith) (omega arith)
     known k e false ea false eb c ec = refused Refusal.Length (t ∷ h ∷ l ∷ w) (omega arith, omega arith) (omega arith)
     known k e false ea true eb false ec = refused Refusal.Depth (t ∷ h ∷ l ∷ w) (omega arith, omega arith) (omega arith)
     known k e false ea true eb true ec = header t h l w k e (ltb-false _ _ ea) eb ec
 
-    by : (tag : TagLookup) → kind_of_tag t ≡ tag → StartView d (t ∷ h ∷ l ∷ w) (judged tag (h * 256 + l) (length w) d)
-    by TagLookup.Unknown e = refused Refusal.Tag (t ∷ h ∷ l ∷ w) (omega arith, omega arith) (omega arith)
-    by (TagLookup.Known k) e = known k e (ltb (length w) (h * 256 + l)) refl (length_allowed k (h * 256 + l)) refl (depth_allowed k d) refl
+    by : (tag : Option FieldKind) → kind_of_tag t ≡ tag → StartView d (t ∷ h ∷ l ∷ w) (judged tag (h * 256 + l) (length w) d)
+    by None e = refused Refusal.Tag (t ∷ h ∷ l ∷ w) (omega arith, omega arith) (omega arith)
+    by (Some k) e = known k e (ltb (length w) (h * 256 + l)) refl (length_allowed k (h * 256 + l)) refl (depth_allowed k d) refl
 
-pub whole-field : (d : ℕ) (bs : List ℕ) (k : FieldKind) (n : ℕ) → start_of d bs ≡ Start.Field k n → WholeField d bs k n
+pub whole-field : (d : ℕ) (bs : List ℕ) (k : FieldKind) (n : ℕ) → start_of d bs ≡ Ok (Some (k, n)) → WholeField d bs k n
 whole-field d bs k n e = by bs k n (subst (StartView d bs) e (start_view d bs))
   where
-    by : (bs : List ℕ) (k : FieldKind) (n : ℕ) → StartView d bs (Start.Field k n) → WholeField d bs k n
+    by : (bs : List ℕ) (k : FieldKind) (n : ℕ) → StartView d bs (Ok (Some (k, n))) → WholeField d bs k n
     by bs k n (header t h l w j known room long deep) = record { room = omega arith; long = long; deep = deep }
 
 -- only an empty run is at its end
-pub end_empty : (d : ℕ) (bs : List ℕ) → start_of d bs ≡ Start.End → bs ≡ []
+pub end_empty : (d : ℕ) (bs : List ℕ) → start_of d bs ≡ (Ok None) → bs ≡ []
 end_empty d bs e = by bs (subst (StartView d bs) e (start_view d bs))
   where
-    by : (bs : List ℕ) → StartView d bs Start.End → bs ≡ []
+    by : (bs : List ℕ) → StartView d bs (Ok None) → bs ≡ []
     by bs at_end = refl
 
 -- the rest after a field is shorter, and so is its content
-rest_shorter : (d : ℕ) (bs : List ℕ) (k : FieldKind) (n m : ℕ) → start_of d bs ≡ Start.Field k n → length bs ≤ suc m → length (drop (3 + n) bs) ≤ m
+rest_shorter : (d : ℕ) (bs : List ℕ) (k : FieldKind) (n m : ℕ) → start_of d bs ≡ Ok (Some (k, n)) → length bs ≤ suc m → length (drop (3 + n) bs) ≤ m
 rest_shorter d bs k n m e h =
     let room : 3 + n ≤ length bs = (whole-field d bs k n e).room in
     let rest : length (drop (3 + n) bs) ≡ length bs - (3 + n) = length-drop (3 + n) bs in
     omega arith
 
-content_shorter : (d : ℕ) (bs : List ℕ) (k : FieldKind) (n m : ℕ) → start_of d bs ≡ Start.Field k n → length bs ≤ suc m → length (take n (drop 3 bs)) ≤ m
+content_shorter : (d : ℕ) (bs : List ℕ) (k : FieldKind) (n m : ℕ) → start_of d bs ≡ Ok (Some (k, n)) → length bs ≤ suc m → length (take n (drop 3 bs)) ≤ m
 content_shorter d bs k n m e h =
     let room : 3 + n ≤ length bs = (whole-field d bs k n e).room in
     let after : length (drop 3 bs) ≡ length bs - 3 = length-drop 3 bs in
@@ -57,13 +55,13 @@ content_shorter d bs k n m e h =
     omega arith
 
 -- two ways to go on that agree on every shorter run give the same step
-step-agrees : (run run' : ℕ → ℕ → List ℕ → Scan) (d p : ℕ) (bs : List ℕ) (s : Start)
-    → ((k : FieldKind) (n : ℕ) → s ≡ Start.Field k n → (e q : ℕ) → run e q (take n (drop 3 bs)) ≡ run' e q (take n (drop 3 bs)))
-    → ((k : FieldKind) (n : ℕ) → s ≡ Start.Field k n → (e q : ℕ) → run e q (drop (3 + n) bs) ≡ run' e q (drop (3 + n) bs))
+step-agrees : (run run' : ℕ → ℕ → List ℕ → Scan) (d p : ℕ) (bs : List ℕ) (s : Result (Option (FieldKind × ℕ)) Refusal)
+    → ((k : FieldKind) (n : ℕ) → s ≡ Ok (Some (k, n)) → (e q : ℕ) → run e q (take n (drop 3 bs)) ≡ run' e q (take n (drop 3 bs)))
+    → ((k : FieldKind) (n : ℕ) → s ≡ Ok (Some (k, n)) → (e q : ℕ) → run e q (drop (3 + n) bs) ≡ run' e q (drop (3 + n) bs))
     → step run d p bs s ≡ step run' d p bs s
-step-agrees run run' d p bs Start.End hc hr = refl
-step-agrees run run' d p bs (Start.Refused f) hc hr = refl
-step-agrees run run' d p bs (Start.Field k n) hc hr =
+step-agrees run run' d p bs (Ok None) hc hr = refl
+step-agrees run run' d p bs (Err f) hc hr = refl
+step-agrees run run' d p bs (Ok (Some (k, n))) hc hr =
     ap₂ (λ (i r : Scan). Fields (record { place = p; depth = d; kind = k; content = take n (drop 3 bs) } ∷ []) and_then i and_then r)
     (within k (hc k n refl)) (hr k n refl d (p + 3 + n))
   where

@@ -1,10 +1,9 @@
 -- What holds of every sheet: which refusals there are and where, and where its fields stand.
 -- Assumes nothing.
-use Rattle.std.specs.Prelude.{◌≡◌, refl, ◌⊎◌, Bool, true, false, List, [], ◌∷◌, ℕ, zero, suc, ◌+◌, ◌-◌, ◌≤◌, ◌<◌, ltb, length, take, drop}
+use Rattle.std.specs.Prelude.{◌≡◌, refl, ◌⊎◌, Bool, true, false, List, [], ◌∷◌, ℕ, zero, suc, ◌+◌, ◌-◌, ◌≤◌, ◌<◌, ltb, length, take, drop, Option, Some, None, Result, Ok, Err}
 use Rattle.std.proofs.Common.{sym, subst, ◌∙◌, inl, inr, ⊎_elim, arith, ltb-true, ltb-false, lt-ltb, le-ltb, length-drop, length-take-le}
 use Rattle.refusals.specs.declared.Refusal.{Refusal}
 use Rattle.fields.specs.declared.FieldKind.{FieldKind}
-use Rattle.fields.specs.declared.Start.{Start}
 use Rattle.fields.specs.Start.{start_of}
 use Rattle.fields.specs.Run.{Field, Scan, Fields, Refused, ◌and_then◌, inside, step, scan, run_of, sheet_of}
 use Rattle.fields.specs.Laws.{StartView, WholeField}
@@ -25,13 +24,13 @@ module _ (run : ℕ → ℕ → List ℕ → Scan) (shorter : (d p : ℕ) (bs : 
       bounded_in d p (length bs) (suc d) (p + 3) (length (take n (drop 3 bs))) (run (suc d) (p + 3) (take n (drop 3 bs))) (omega arith) (omega arith) (omega arith)
       (shorter (suc d) (p + 3) (take n (drop 3 bs)) (omega arith))
 
-  step_bounded : (s : Start) → StartView d bs s → start_of d bs ≡ s → Bounded d p (length bs) (step run d p bs s)
-  step_bounded Start.End v e = nothing
-  step_bounded (Start.Refused f) v e =
+  step_bounded : (s : Result (Option (FieldKind × ℕ)) Refusal) → StartView d bs s → start_of d bs ≡ s → Bounded d p (length bs) (step run d p bs s)
+  step_bounded (Ok None) v e = nothing
+  step_bounded (Err f) v e =
       let here = refused_start d bs f v in
       let some : 0 < length bs = here.2 in
       record { number = (here.0, here.1); offset = (omega arith, omega arith) }
-  step_bounded (Start.Field k n) v e =
+  step_bounded (Ok (Some (k, n))) v e =
       let here = whole-field d bs k n e in
       let room : 3 + n ≤ length bs = here.room in
       let left : length (drop 3 bs) ≡ length bs - 3 = length-drop 3 bs in

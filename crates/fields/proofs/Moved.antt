@@ -1,9 +1,9 @@
 -- The same run at another offset: the same fields with their places moved, or the same refusal with its offset moved.
 -- Assumes nothing.
-use Rattle.std.specs.Prelude.{◌≡◌, refl, List, [], ◌∷◌, ℕ, zero, suc, ◌+◌, length, take, drop}
+use Rattle.std.specs.Prelude.{◌≡◌, refl, List, [], ◌∷◌, ℕ, zero, suc, ◌+◌, length, take, drop, Option, Some, None, Result, Ok, Err}
 use Rattle.std.proofs.Common.{sym, ap, ap₂, ◌∙◌, arith}
 use Rattle.fields.specs.declared.FieldKind.{FieldKind}
-use Rattle.fields.specs.declared.Start.{Start}
+use Rattle.refusals.specs.declared.Refusal.{Refusal}
 use Rattle.fields.specs.Start.{start_of}
 use Rattle.fields.specs.Run.{Field, Scan, Fields, Refused, ◌and_then◌, inside, step, scan, run_of}
 use Rattle.fields.specs.Moved.{moved, moved_both}
@@ -15,10 +15,10 @@ module _ (m : ℕ) (run : ℕ → ℕ → List ℕ → Scan) (moves : (d p : ℕ
   moved_inside FieldKind.Note d p c = refl
   moved_inside FieldKind.Group d p c = ap (λ (q : ℕ). run (suc d) q c) (omega arith) ∙ moves (suc d) (p + 3) c
 
-  moved-step : (d p : ℕ) (bs : List ℕ) (s : Start) → step run d (m + p) bs s ≡ moved m (step run d p bs s)
-  moved-step d p bs Start.End = refl
-  moved-step d p bs (Start.Refused f) = refl
-  moved-step d p bs (Start.Field k n) =
+  moved-step : (d p : ℕ) (bs : List ℕ) (s : Result (Option (FieldKind × ℕ)) Refusal) → step run d (m + p) bs s ≡ moved m (step run d p bs s)
+  moved-step d p bs (Ok None) = refl
+  moved-step d p bs (Err f) = refl
+  moved-step d p bs (Ok (Some (k, n))) =
       let c : List ℕ = take n (drop 3 bs) in
       let f : Scan = Fields (record { place = p; depth = d; kind = k; content = c } ∷ []) in
       let rest : Scan = run d (p + 3 + n) (drop (3 + n) bs) in

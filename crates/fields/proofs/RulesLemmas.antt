@@ -1,13 +1,11 @@
 -- Why a run of bytes is judged by its rules: what stands at its start follows the rules of a field, and a run is refused where they say.
 -- Assumes nothing.
-use Rattle.std.specs.Prelude.{◌≡◌, refl, Bool, true, false, cond, List, [], ◌∷◌, ◌++◌, ◌↔◌, ℕ, zero, suc, ◌+◌, ◌*◌, ◌≤◌, ◌<◌, ltb, length}
+use Rattle.std.specs.Prelude.{◌≡◌, refl, Bool, true, false, cond, List, [], ◌∷◌, ◌++◌, ◌↔◌, ℕ, zero, suc, ◌+◌, ◌*◌, ◌≤◌, ◌<◌, ltb, length, Option, Some, None, Result, Ok, Err}
 use Rattle.std.proofs.Common.{sym, ap, subst, ◌∙◌, append-nil, le_refl, add-zero, arith, eqb-true, eq-eqb, ltb-true, ltb-false, lt-ltb, length-append}
 use Rattle.refusals.specs.Order.{asks, Follows, no_rules}
 use Rattle.refusals.proofs.Order.{kept-one, broken_one, tested}
 use Rattle.refusals.specs.declared.Refusal.{Refusal}
 use Rattle.fields.specs.declared.FieldKind.{FieldKind}
-use Rattle.fields.specs.declared.TagLookup.{TagLookup}
-use Rattle.fields.specs.declared.Start.{Start}
 use Rattle.fields.specs.Start.{tag_of, field_bytes, kind_of_tag, length_allowed, depth_allowed, judged, start_of}
 use Rattle.fields.specs.Run.{Field, Scan, Fields, Refused, ◌and_then◌, inside, step, run_of}
 use Rattle.fields.specs.Laws.{StartView, refused}
@@ -33,22 +31,22 @@ depth_test FieldKind.Group t d e = (λ h g. ltb-true d 4 h, λ h. lt-ltb d 4 (h 
 
 module _ (d t n left : ℕ) where
   last_follow : (k : FieldKind) → t ≡ tag_of k
-      → Follows started (last_rules d t n) (cond (length_allowed k n) (cond (depth_allowed k d) (Start.Field k n) (Start.Refused Refusal.Depth)) (Start.Refused Refusal.Length))
+      → Follows started (last_rules d t n) (cond {A = Result (Option (FieldKind × ℕ)) Refusal} (length_allowed k n) (cond (depth_allowed k d) (Ok (Some (k, n))) (Err Refusal.Depth)) (Err Refusal.Length))
   last_follow k own =
       let size = length_test k t n own in
       let deep = depth_test k t d own in
       tested started (length_allowed k n) ((t ≡ 0x10 → n ≡ 4) × (t ≡ 0x11 → n ≡ 9)) Refusal.Length _ _ size.0 size.1
-      (λ s. tested started (depth_allowed k d) (t ≡ 0x20 → d < 4) Refusal.Depth [] _ deep.0 deep.1 (λ g. no_rules started (Start.Field k n) (k, n, refl)))
+      (λ s. tested started (depth_allowed k d) (t ≡ 0x20 → d < 4) Refusal.Depth [] _ deep.0 deep.1 (λ g. no_rules started (Ok (Some (k, n))) (k, n, refl)))
 
   content_follows : (k : FieldKind) → t ≡ tag_of k → (cut : Bool) → ltb left n ≡ cut
       → Follows started (content_rules d t n left)
-      (cond cut (Start.Refused Refusal.Truncated) (cond (length_allowed k n) (cond (depth_allowed k d) (Start.Field k n) (Start.Refused Refusal.Depth)) (Start.Refused Refusal.Length)))
+      (cond {A = Result (Option (FieldKind × ℕ)) Refusal} cut (Err Refusal.Truncated) (cond (length_allowed k n) (cond (depth_allowed k d) (Ok (Some (k, n))) (Err Refusal.Depth)) (Err Refusal.Length)))
   content_follows k own true e = let past : left < n = ltb-true _ _ e in broken_one started (3 + n ≤ suc (suc (suc left))) Refusal.Truncated _ (λ r. omega arith)
   content_follows k own false e = let room : n ≤ left = ltb-false _ _ e in kept-one started (3 + n ≤ suc (suc (suc left))) Refusal.Truncated _ _ (omega arith) (last_follow k own)
 
-  judged_follows : (tag : TagLookup) → kind_of_tag t ≡ tag → Follows started (asks (AmongTags t) Refusal.Tag ∷ content_rules d t n left) (judged tag n left d)
-  judged_follows TagLookup.Unknown e = broken_one started (AmongTags t) Refusal.Tag _ (unknown t e)
-  judged_follows (TagLookup.Known k) e =
+  judged_follows : (tag : Option FieldKind) → kind_of_tag t ≡ tag → Follows started (asks (AmongTags t) Refusal.Tag ∷ content_rules d t n left) (judged tag n left d)
+  judged_follows None e = broken_one started (AmongTags t) Refusal.Tag _ (unknown t e)
+  judged_follows (Some k) e =
       let own : t ≡ tag_of k = tag-known t k e in
       kept-one started (AmongTags t) Refusal.Tag _ _ (among_tags k t own) (content_follows k own (ltb left n) refl)
 
@@ -84,7 +82,7 @@ module _ (d p : ℕ) (ts : Trees) (legal : Allowed d ts) where
 
 module _ (m : ℕ) (shorter : Finds m) (d p : ℕ) (f : Refusal) (q : ℕ) where
   -- nothing before the field
-  here : (bs : List ℕ) → 0 < length bs → start_of d bs ≡ Start.Refused f → p ≡ q → RefusedAt d p bs f q
+  here : (bs : List ℕ) → 0 < length bs → start_of d bs ≡ Err f → p ≡ q → RefusedAt d p bs f q
   here bs some e same =
       subst (λ (r : ℕ). RefusedAt d p bs f r) (add-zero p ∙ same) (breaks_rule no_more bs no_more_allowed some (((start_follows d bs some).refused f).0 e))
 
@@ -124,13 +122,13 @@ module _ (m : ℕ) (shorter : Finds m) (d p : ℕ) (f : Refusal) (q : ℕ) where
           (shorter d (p + 3 + length x.content) x.rest (omega (arith, size, h)) x.rest_bytes f q (er ∙ e))
       by (Fields gs) (Fields hs) ei er e = let z : ◌≡◌ {A = ℕ} 0 1 = cc in absurd (omega arith)
 
-  at-start : (bs : List ℕ) → length bs ≤ suc m → Bytes bs → run_of d p bs ≡ Refused f q → (s : Start) → start_of d bs ≡ s → StartView d bs s → RefusedAt d p bs f q
-  at-start bs h b e Start.End es v = let none : Fields [] ≡ Refused f q = sym (run_step d p bs ∙ ap (step run_of d p bs) es) ∙ e in let z : ◌≡◌ {A = ℕ} 0 1 = cc in absurd (omega arith)
-  at-start bs h b e (Start.Refused g) es (refused g' xs number some) =
+  at-start : (bs : List ℕ) → length bs ≤ suc m → Bytes bs → run_of d p bs ≡ Refused f q → (s : Result (Option (FieldKind × ℕ)) Refusal) → start_of d bs ≡ s → StartView d bs s → RefusedAt d p bs f q
+  at-start bs h b e (Ok None) es v = let none : Fields [] ≡ Refused f q = sym (run_step d p bs ∙ ap (step run_of d p bs) es) ∙ e in let z : ◌≡◌ {A = ℕ} 0 1 = cc in absurd (omega arith)
+  at-start bs h b e (Err g) es (refused g' xs number some) =
       let same : Refused g p ≡ Refused f q = sym (run_step d p bs ∙ ap (step run_of d p bs) es) ∙ e in
       let which : g ≡ f = cc in
-      here bs some (es ∙ ap Start.Refused which) cc
-  at-start bs h b e (Start.Field k n) es v =
+      here bs some (es ∙ ap Err which) cc
+  at-start bs h b e (Ok (Some (k, n))) es v =
       let x = first_field d bs k n b v in
       subst (λ (xs : List ℕ). RefusedAt d p xs f q) (sym x.whole)
       (parts k bs x h _ _ refl refl (sym (run_written d p k x.content x.rest x.long x.deep) ∙ ap (run_of d p) (sym x.whole) ∙ e))

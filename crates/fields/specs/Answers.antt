@@ -1,24 +1,23 @@
 -- How what stands at the start of a run, and how a whole run, refuse and accept: what the orders of refusals of a sheet are about.
 -- Assumes nothing.
-use Rattle.std.specs.Prelude.{◌≡◌, List, ℕ}
+use Rattle.std.specs.Prelude.{◌≡◌, List, ℕ, Option, Some, Result, Ok, Err}
 use Rattle.std.proofs.Common.{arith}
 use Rattle.refusals.specs.Order.{Answers}
 use Rattle.refusals.specs.declared.Refusal.{Refusal}
 use Rattle.fields.specs.declared.FieldKind.{FieldKind}
-use Rattle.fields.specs.declared.Start.{Start}
 use Rattle.fields.specs.Run.{Field, Scan, Fields, Refused}
 
-pub no_field : (k : FieldKind) (n : ℕ) (f : Refusal) → Start.Refused f ≡ Start.Field k n → ⊥
+pub no_field : (k : FieldKind) (n : ℕ) (f : Refusal) → ◌≡◌ {A = Result (Option (FieldKind × ℕ)) Refusal} (Err f) (Ok (Some (k, n))) → ⊥
 no_field k n f e = let z : ◌≡◌ {A = ℕ} 0 1 = cc in omega arith
 
-pub same_start : (f g : Refusal) → Start.Refused f ≡ Start.Refused g → f ≡ g
+pub same_start : (f g : Refusal) → ◌≡◌ {A = Result (Option (FieldKind × ℕ)) Refusal} (Err f) (Err g) → f ≡ g
 same_start f g e = cc
 
 -- a field is refused, or stands there
-abbrev pub started : Answers Refusal Start
+abbrev pub started : Answers Refusal (Result (Option (FieldKind × ℕ)) Refusal)
 started = record {
-  refuse = Start.Refused;
-  accepts = λ s. (k : FieldKind) × (n : ℕ) × (s ≡ Start.Field k n);
+  refuse = Err;
+  accepts = λ s. (k : FieldKind) × (n : ℕ) × (s ≡ Ok (Some (k, n)));
   apart = λ f h. no_field h.0 h.1 f h.2;
   once = same_start;
 }

@@ -1,10 +1,8 @@
 -- A legal run of bytes is exactly what a list of fields writes: tag, length high byte first, content, and in a group the bytes of the fields it holds.
 -- Assumes nothing.
-use Rattle.std.specs.Prelude.{◌≡◌, refl, Bool, true, false, cond, List, [], ◌∷◌, ◌++◌, ℕ, zero, suc, ◌+◌, ◌≤◌, ◌<◌, eqb, length, take, drop}
+use Rattle.std.specs.Prelude.{◌≡◌, refl, Bool, true, false, cond, List, [], ◌∷◌, ◌++◌, ℕ, zero, suc, ◌+◌, ◌≤◌, ◌<◌, eqb, length, take, drop, Some, None, Ok}
 use Rattle.std.proofs.Common.{ap, ◌∙◌, arith, eqb-true, le-ltb}
 use Rattle.fields.specs.declared.FieldKind.{FieldKind}
-use Rattle.fields.specs.declared.TagLookup.{TagLookup}
-use Rattle.fields.specs.declared.Start.{Start}
 use Rattle.fields.specs.Start.{tag_of, is_leaf, field_bytes, kind_of_tag, length_allowed, depth_allowed, judged}
 use Rattle.fields.specs.Run.{Field, Scan, Fields, Refused, ◌and_then◌, run_of}
 
@@ -44,13 +42,13 @@ pub data Allowed : ℕ → Trees → Type 0 where
 
 -- ---- a written field before the rest of its run
 
-pub known-tag : (k : FieldKind) → kind_of_tag (tag_of k) ≡ TagLookup.Known k
+pub known-tag : (k : FieldKind) → kind_of_tag (tag_of k) ≡ Some k
 known-tag FieldKind.Word = refl
 known-tag FieldKind.Figure = refl
 known-tag FieldKind.Note = refl
 known-tag FieldKind.Group = refl
 
-pub judged-field : (k : FieldKind) (len left d : ℕ) → len ≤ left → length_allowed k len ≡ true → depth_allowed k d ≡ true → judged (TagLookup.Known k) len left d ≡ Start.Field k len
+pub judged-field : (k : FieldKind) (len left d : ℕ) → len ≤ left → length_allowed k len ≡ true → depth_allowed k d ≡ true → judged (Some k) len left d ≡ Ok (Some (k, len))
 judged-field k len left d room long deep = rw (le-ltb _ _ room, long, deep)
 
 pub bytes_append : {xs ys : List ℕ} → Bytes xs → Bytes ys → Bytes (xs ++ ys)
@@ -69,12 +67,12 @@ bytes_drop zero b = b
 bytes_drop (suc n) no_byte = no_byte
 bytes_drop (suc n) (byte h b) = bytes_drop n b
 
-pub tag-known : (t : ℕ) (k : FieldKind) → kind_of_tag t ≡ TagLookup.Known k → t ≡ tag_of k
+pub tag-known : (t : ℕ) (k : FieldKind) → kind_of_tag t ≡ Some k → t ≡ tag_of k
 tag-known t k e = by (eqb t 0x10) refl (eqb t 0x11) refl (eqb t 0x12) refl (eqb t 0x20) refl e
   where
     by : (a : Bool) → eqb t 0x10 ≡ a → (b : Bool) → eqb t 0x11 ≡ b → (c : Bool) → eqb t 0x12 ≡ c → (g : Bool) → eqb t 0x20 ≡ g
-        → cond a (TagLookup.Known FieldKind.Word) (cond b (TagLookup.Known FieldKind.Figure) (cond c (TagLookup.Known FieldKind.Note) (cond g (TagLookup.Known FieldKind.Group) TagLookup.Unknown)))
-        ≡ TagLookup.Known k
+        → cond a (Some FieldKind.Word) (cond b (Some FieldKind.Figure) (cond c (Some FieldKind.Note) (cond g (Some FieldKind.Group) None)))
+        ≡ Some k
         → t ≡ tag_of k
     by true ea b eb c ec g eg e = let same : FieldKind.Word ≡ k = cc in eqb-true t 0x10 ea ∙ ap tag_of same
     by false ea true eb c ec g eg e = let same : FieldKind.Figure ≡ k = cc in eqb-true t 0x11 eb ∙ ap tag_of same

@@ -1,10 +1,9 @@
 -- What holds of every sheet: which refusals there are and where, and where its fields stand.
 -- Assumes nothing.
-use Rattle.std.specs.Prelude.{◌≡◌, refl, List, [], ◌∷◌, ◌++◌, ℕ, ◌+◌, ◌-◌, ◌≤◌, ◌<◌, length}
+use Rattle.std.specs.Prelude.{◌≡◌, refl, List, [], ◌∷◌, ◌++◌, ℕ, ◌+◌, ◌-◌, ◌≤◌, ◌<◌, length, Err}
 use Rattle.std.proofs.Common.{arith}
 use Rattle.refusals.specs.declared.Refusal.{Refusal}
 use Rattle.refusals.specs.Numbers.{number_of}
-use Rattle.fields.specs.declared.Start.{Start}
 use Rattle.fields.specs.Run.{Field, Scan, Fields, Refused, ◌and_then◌, scan, sheet_of}
 use Rattle.fields.specs.Laws.{StartView, refused}
 
@@ -55,7 +54,7 @@ bounded_in d p n d' p' n' (Refused f q) hd hp hn h = record { number = h.number;
 -- ---- a step
 
 -- a refusal at a run's start
-pub refused_start : (d : ℕ) (bs : List ℕ) (f : Refusal) → StartView d bs (Start.Refused f) → (9 ≤ number_of f) × (number_of f ≤ 12) × (0 < length bs)
+pub refused_start : (d : ℕ) (bs : List ℕ) (f : Refusal) → StartView d bs (Err f) → (9 ≤ number_of f) × (number_of f ≤ 12) × (0 < length bs)
 refused_start d bs f (refused g xs number some) = (number.0, number.1, some)
 
 -- ---- every sheet

@@ -1,11 +1,10 @@
 -- Why a run of bytes is judged by its rules: what stands at its start follows the rules of a field, and a run is refused where they say.
 -- Assumes nothing.
-use Rattle.std.specs.Prelude.{◌≡◌, refl, List, [], ◌∷◌, ◌++◌, ◌⊎◌, ℕ, suc, ◌+◌, ◌≤◌, ◌<◌, length}
+use Rattle.std.specs.Prelude.{◌≡◌, refl, List, [], ◌∷◌, ◌++◌, ◌⊎◌, ℕ, suc, ◌+◌, ◌≤◌, ◌<◌, length, Some, None}
 use Rattle.std.proofs.Common.{sym, ap, ◌∙◌, append_assoc, inl, inr, arith, length-append}
 use Rattle.refusals.specs.Order.{Rule, asks}
 use Rattle.refusals.specs.declared.Refusal.{Refusal}
 use Rattle.fields.specs.declared.FieldKind.{FieldKind}
-use Rattle.fields.specs.declared.TagLookup.{TagLookup}
 use Rattle.fields.specs.Start.{tag_of, field_bytes, kind_of_tag}
 use Rattle.fields.specs.Run.{Refused, run_of}
 use Rattle.fields.specs.Grammar.{Trees, no_more, leaf, group, bytes_of, Bytes, Allowed, no_more_allowed, leaf_allowed, group_allowed}
@@ -22,11 +21,11 @@ among_tags FieldKind.Figure t e = inr (inl e)
 among_tags FieldKind.Note t e = inr (inr (inl e))
 among_tags FieldKind.Group t e = inr (inr (inr e))
 
-pub unknown : (t : ℕ) → kind_of_tag t ≡ TagLookup.Unknown → AmongTags t → ⊥
-unknown t e (inl a) = let z : TagLookup.Known FieldKind.Word ≡ TagLookup.Unknown = sym (ap kind_of_tag a) ∙ e in let y : ◌≡◌ {A = ℕ} 0 1 = cc in omega arith
-unknown t e (inr (inl a)) = let z : TagLookup.Known FieldKind.Figure ≡ TagLookup.Unknown = sym (ap kind_of_tag a) ∙ e in let y : ◌≡◌ {A = ℕ} 0 1 = cc in omega arith
-unknown t e (inr (inr (inl a))) = let z : TagLookup.Known FieldKind.Note ≡ TagLookup.Unknown = sym (ap kind_of_tag a) ∙ e in let y : ◌≡◌ {A = ℕ} 0 1 = cc in omega arith
-unknown t e (inr (inr (inr a))) = let z : TagLookup.Known FieldKind.Group ≡ TagLookup.Unknown = sym (ap kind_of_tag a) ∙ e in let y : ◌≡◌ {A = ℕ} 0 1 = cc in omega arith
+pub unknown : (t : ℕ) → kind_of_tag t ≡ None → AmongTags t → ⊥
+unknown t e (inl a) = let z : Some FieldKind.Word ≡ None = sym (ap kind_of_tag a) ∙ e in let y : ◌≡◌ {A = ℕ} 0 1 = cc in omega arith
+unknown t e (inr (inl a)) = let z : Some FieldKind.Figure ≡ None = sym (ap kind_of_tag a) ∙ e in let y : ◌≡◌ {A = ℕ} 0 1 = cc in omega arith
+unknown t e (inr (inr (inl a))) = let z : Some FieldKind.Note ≡ None = sym (ap kind_of_tag a) ∙ e in let y : ◌≡◌ {A = ℕ} 0 1 = cc in omega arith
+unknown t e (inr (inr (inr a))) = let z : Some FieldKind.Group ≡ None = sym (ap kind_of_tag a) ∙ e in let y : ◌≡◌ {A = ℕ} 0 1 = cc in omega arith
 
 -- the last rules of a field with this tag and length: its length and its depth, and before them its content
 abbrev pub last_rules : (d t n : ℕ) → List (Rule Refusal)

@@ -1,9 +1,8 @@
 -- What a run of bytes is: all its fields in the order of their tags, a group before its inside, or the first refusal with the offset of its field's tag.
 -- Assumes nothing.
-use Rattle.std.specs.Prelude.{cond, List, [], ◌∷◌, ◌++◌, ℕ, zero, suc, ◌+◌, ltb, length, take, drop}
+use Rattle.std.specs.Prelude.{cond, List, [], ◌∷◌, ◌++◌, ℕ, zero, suc, ◌+◌, ltb, length, take, drop, Option, Some, None, Result, Ok, Err}
 use Rattle.refusals.specs.declared.Refusal.{Refusal}
 use Rattle.fields.specs.declared.FieldKind.{FieldKind}
-use Rattle.fields.specs.declared.Start.{Start}
 use Rattle.fields.specs.Start.{is_leaf, start_of}
 
 -- a field: the offset of its tag, its depth (top fields are at depth 1), what it holds, and its content
@@ -30,10 +29,10 @@ abbrev pub inside : (ℕ → ℕ → List ℕ → Scan) → FieldKind → (depth
 inside run k d p c = cond (is_leaf k) (Fields []) (run (suc d) (p + 3) c)
 
 -- one step: the field at the start of the run, its inside, then the rest of the run
-abbrev pub step : (ℕ → ℕ → List ℕ → Scan) → (depth place : ℕ) → List ℕ → Start → Scan
-step run d p bs Start.End = Fields []
-step run d p bs (Start.Refused f) = Refused f p
-step run d p bs (Start.Field k n) =
+abbrev pub step : (ℕ → ℕ → List ℕ → Scan) → (depth place : ℕ) → List ℕ → Result (Option (FieldKind × ℕ)) Refusal → Scan
+step run d p bs (Ok None) = Fields []
+step run d p bs (Err f) = Refused f p
+step run d p bs (Ok (Some (k, n))) =
     Fields (record { place = p; depth = d; kind = k; content = take n (drop 3 bs) } ∷ [])
     and_then inside run k d p (take n (drop 3 bs))
     and_then run d (p + 3 + n) (drop (3 + n) bs)

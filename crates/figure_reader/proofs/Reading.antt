@@ -1,7 +1,8 @@
 -- The parts of a text by the tests of the code, and what a part that is too long or too great leaves unread.
 -- Assumes nothing.
+use Rattle.std.specs.Prelude.{Some, None}
 use mathlib.Core.Path.{◌≡◌, refl, sym, ap, ap₂, ◌∙◌}
-use mathlib.Core.Bool.{Bool, true, false, not, cond, ◌&&◌, ◌||◌, and-true}
+use mathlib.Core.Bool.{Bool, true, false, not, cond, ◌&&◌, ◌||◌}
 use mathlib.Core.List.{List, [], ◌∷◌}
 use Prim.Native.Nat.{ℕ, zero, suc, ◌+◌, ◌-◌, ◌*◌, ◌^◌, ◌≤◌, ◌<◌}
 use native.Mathlib.Nat.{pow-le-pow_right}
@@ -12,14 +13,12 @@ use lib.ListN.{length, take, drop, length-append}
 use Rattle.signed_numbers.specs.Signed.{greatest, signed_of}
 use Rattle.signed_numbers.proofs.SignedTheorems.{signed_large}
 use Rattle.numerals.specs.Values.{value-below}
-use Rattle.typed_texts.specs.declared.Numeral.{Numeral}
 use Rattle.typed_texts.specs.Texts.{text_before, text_behind, starts_with}
 use Rattle.typed_texts.specs.TextLaws.{has, parts, whole}
 use Rattle.typed_texts.specs.Numbers.{value_of, are_digits, numeral, numeral_of}
 use Rattle.typed_texts.specs.NumberLaws.{read_within}
 use Rattle.typed_parts.proofs.Parts.{rest}
-use Rattle.typed_figures.specs.declared.TypedFigure.{TypedFigure}
-use Rattle.typed_figures.specs.Figures.{behind_sign, separator_of, are_parts, millionths_of, typed, parts_read}
+use Rattle.typed_figures.specs.Figures.{behind_sign, separator_of, are_parts, millionths_of, parts_read}
 use Rattle.typed_figures.specs.DigitTexts.{both, digits-only, value_read}
 use Rattle.figure_reader.specs.Digits.{digits_of}
 
@@ -55,7 +54,7 @@ no_point t before e h = go (has 46 t) refl
 
 -- ---- the digits of a part
 
-pub none_read : (most : ℕ) (t : List ℕ) → length t ≡ 0 → numeral true 0 ≡ digits_of most t
+pub none_read : (most : ℕ) (t : List ℕ) → length t ≡ 0 → Some 0 ≡ digits_of most t
 none_read most [] h = refl
 none_read most (c ∷ t) h = absurd (omega arith)
 
@@ -63,23 +62,31 @@ pub some_read : (most : ℕ) (t : List ℕ) → (length t ≡ 0 → ⊥) → num
 some_read most [] h = absurd (h refl)
 some_read most (c ∷ t) h = refl
 
-pub digits_within : (most : ℕ) (t : List ℕ) (n : Numeral) → n ≡ digits_of most t → n.value ≤ most
-digits_within most [] n e = omega (arith, ap (λ (x : Numeral). x.value) e)
-digits_within most (c ∷ t) n e = omega (arith, ap (λ (x : Numeral). x.value) e, read_within 10 most (c ∷ t))
+-- a number exactly where all are digits and no greater than the greatest
+digits_numeral : (most : ℕ) (t : List ℕ) → digits_of most t ≡ numeral (are_digits 10 t && leb (value_of 10 t) most) (value_of 10 t)
+digits_numeral most [] = ap (λ (b : Bool). numeral b 0) (sym (le-leb 0 most (omega arith)))
+digits_numeral most (c ∷ t) = refl
 
-good_numeral : (b : Bool) (v : ℕ) → (numeral b v).good ≡ b
-good_numeral true v = refl
-good_numeral false v = refl
+numeral_some : (b : Bool) (v n : ℕ) → Some n ≡ numeral b v → (b ≡ true) × (n ≡ v)
+numeral_some true v n e = let same : n ≡ v = cc in (refl, same)
+numeral_some false v n e = let z : ◌≡◌ {A = ℕ} 0 1 = cc in absurd (omega arith)
 
--- good exactly where all are digits and no greater than the greatest
-digits_good : (most : ℕ) (t : List ℕ) → (digits_of most t).good ≡ (are_digits 10 t && leb (value_of 10 t) most)
-digits_good most [] = sym (le-leb 0 most (omega arith))
-digits_good most (c ∷ t) = good_numeral (are_digits 10 (c ∷ t) && leb (value_of 10 (c ∷ t)) most) (value_of 10 (c ∷ t))
+numeral_none : (b : Bool) (v : ℕ) → None ≡ numeral b v → b ≡ false
+numeral_none true v e = let z : ◌≡◌ {A = ℕ} 0 1 = cc in absurd (omega arith)
+numeral_none false v e = refl
 
-digits_value : (most : ℕ) (t : List ℕ) → (digits_of most t).good ≡ true → (digits_of most t).value ≡ value_of 10 t
-digits_value most [] h = refl
-digits_value most (c ∷ t) h =
-    ap (λ (b : Bool). (numeral b (value_of 10 (c ∷ t))).value) (sym (digits_good most (c ∷ t)) ∙ h)
+digits_none : (most : ℕ) (t : List ℕ) → None ≡ digits_of most t → (are_digits 10 t && leb (value_of 10 t) most) ≡ false
+digits_none most t e =
+    numeral_none (are_digits 10 t && leb (value_of 10 t) most) (value_of 10 t) (e ∙ digits_numeral most t)
+
+digits_some : (most : ℕ) (t : List ℕ) (n : ℕ) → Some n ≡ digits_of most t → (are_digits 10 t ≡ true) × (n ≡ value_of 10 t)
+digits_some most t n e =
+    let k = numeral_some (are_digits 10 t && leb (value_of 10 t) most) (value_of 10 t) n (e ∙ digits_numeral most t) in
+    ((both (are_digits 10 t) (leb (value_of 10 t) most) k.0).0, k.1)
+
+pub digits_within : (most : ℕ) (t : List ℕ) (n : ℕ) → Some n ≡ digits_of most t → n ≤ most
+digits_within most [] n e = let same : n ≡ 0 = cc in omega arith
+digits_within most (c ∷ t) n e = read_within 10 most (c ∷ t) n e
 
 -- ---- the parts
 
@@ -111,7 +118,7 @@ limit true = omega arith
 limit false = omega arith
 
 module _ (negative : Bool) (w d : List ℕ) where
-  pub lengths_unread : (ltb 6 (length d) || (eqb (length w) 0 && eqb (length d) 0)) ≡ true → TypedFigure.Unread ≡ parts_read negative w d
+  pub lengths_unread : (ltb 6 (length d) || (eqb (length w) 0 && eqb (length d) 0)) ≡ true → None ≡ parts_read negative w d
   unfolding parts_read
   lengths_unread h = rw (long_or_empty (length w) (length d)) (rw h refl)
 
@@ -126,37 +133,36 @@ module _ (negative : Bool) (w d : List ℕ) where
     parts-digits = ap (λ (b : Bool). b && (are_digits 10 w && are_digits 10 d)) lengths_right
 
     -- whole digits past the greatest number are too large with any decimals
-    whole_large : are_digits 10 w ≡ true → are_digits 10 d ≡ true → ((digits_of 9223372036854 w).good && (digits_of 999999 d).good) ≡ false → typed (signed_of negative (millionths_of w d)) ≡ TypedFigure.Unread
-    whole_large a b g = ap typed (signed_large negative (millionths_of w d) (omega (arith, great, limit negative)))
-      where
-        decimals_good : (digits_of 999999 d).good ≡ true
-        decimals_good = digits_good 999999 d ∙ ap₂ ◌&&◌ b (le-leb (value_of 10 d) 999999 (decimals_small d six b))
+    whole_large : 9223372036854 < value_of 10 w → signed_of negative (millionths_of w d) ≡ None
+    whole_large great = signed_large negative (millionths_of w d) (omega (arith, great, limit negative))
 
-        large : (x y : Bool) → y ≡ true → (x && y) ≡ false → x ≡ false
-        large x true e h = sym (and-true x) ∙ h
-        large x false e h = let z : ◌≡◌ {A = ℕ} 0 1 = cc in absurd (omega arith)
-
-        whole-not : (are_digits 10 w && leb (value_of 10 w) 9223372036854) ≡ false
-        whole-not = sym (digits_good 9223372036854 w) ∙ large (digits_of 9223372036854 w).good (digits_of 999999 d).good decimals_good g
-
-        great : 9223372036854 < value_of 10 w
-        great = leb-false (value_of 10 w) 9223372036854 (ap (λ (x : Bool). x && leb (value_of 10 w) 9223372036854) (sym a) ∙ whole-not)
-
-    pub digits_unread : ((digits_of 9223372036854 w).good && (digits_of 999999 d).good) ≡ false → TypedFigure.Unread ≡ parts_read negative w d
+    of-digits : (a b : Bool) → are_digits 10 w ≡ a → are_digits 10 d ≡ b → cond (a && b) (signed_of negative (millionths_of w d)) None ≡ parts_read negative w d
     unfolding parts_read
-    digits_unread g = go (are_digits 10 w) (are_digits 10 d) refl refl ∙ ap (λ (x : Bool). cond x (typed (signed_of negative (millionths_of w d))) TypedFigure.Unread) (sym parts-digits)
-      where
-        go : (a b : Bool) → are_digits 10 w ≡ a → are_digits 10 d ≡ b → TypedFigure.Unread ≡ cond (a && b) (typed (signed_of negative (millionths_of w d))) TypedFigure.Unread
-        go true true e f = sym (whole_large e f g)
-        go true false e f = refl
-        go false b e f = refl
+    of-digits a b e f = ap (λ (x : Bool). cond x (signed_of negative (millionths_of w d)) None) (sym (parts-digits ∙ ap₂ ◌&&◌ e f))
 
-    pub digits-taken : ((digits_of 9223372036854 w).good && (digits_of 999999 d).good) ≡ true
-        → typed (signed_of negative ((digits_of 9223372036854 w).value * 1000000 + (digits_of 999999 d).value * 10 ^ (6 - length d))) ≡ parts_read negative w d
-    unfolding parts_read
-    digits-taken g =
-        let k = both (digits_of 9223372036854 w).good (digits_of 999999 d).good g in
-        let a = (both (are_digits 10 w) (leb (value_of 10 w) 9223372036854) (sym (digits_good 9223372036854 w) ∙ k.0)).0 in
-        let b = (both (are_digits 10 d) (leb (value_of 10 d) 999999) (sym (digits_good 999999 d) ∙ k.1)).0 in
-        ap₂ (λ (x y : ℕ). typed (signed_of negative (x * 1000000 + y * 10 ^ (6 - length d)))) (digits_value 9223372036854 w k.0) (digits_value 999999 d k.1)
-        ∙ ap (λ (x : Bool). cond x (typed (signed_of negative (millionths_of w d))) TypedFigure.Unread) (sym (parts-digits ∙ ap₂ ◌&&◌ a b))
+    pub whole_unread : None ≡ digits_of 9223372036854 w → None ≡ parts_read negative w d
+    whole_unread n = go (are_digits 10 w) (are_digits 10 d) refl refl
+      where
+        go : (a b : Bool) → are_digits 10 w ≡ a → are_digits 10 d ≡ b → None ≡ parts_read negative w d
+        go true true e f =
+            let great = leb-false (value_of 10 w) 9223372036854 (ap (λ (x : Bool). x && leb (value_of 10 w) 9223372036854) (sym e) ∙ digits_none 9223372036854 w n) in
+            sym (whole_large great) ∙ of-digits true true e f
+        go true false e f = of-digits true false e f
+        go false b e f = of-digits false b e f
+
+    pub decimals_unread : None ≡ digits_of 999999 d → None ≡ parts_read negative w d
+    decimals_unread n = go (are_digits 10 w) (are_digits 10 d) refl refl
+      where
+        go : (a b : Bool) → are_digits 10 w ≡ a → are_digits 10 d ≡ b → None ≡ parts_read negative w d
+        go a true e f =
+            let great = leb-false (value_of 10 d) 999999 (ap (λ (x : Bool). x && leb (value_of 10 d) 999999) (sym f) ∙ digits_none 999999 d n) in
+            absurd (omega (arith, great, decimals_small d six f))
+        go true false e f = of-digits true false e f
+        go false false e f = of-digits false false e f
+
+    pub digits-taken : (units rest : ℕ) → Some units ≡ digits_of 9223372036854 w → Some rest ≡ digits_of 999999 d
+        → signed_of negative (units * 1000000 + rest * 10 ^ (6 - length d)) ≡ parts_read negative w d
+    digits-taken units rest e f =
+        let a = digits_some 9223372036854 w units e in
+        let b = digits_some 999999 d rest f in
+        ap₂ (λ (x y : ℕ). signed_of negative (x * 1000000 + y * 10 ^ (6 - length d))) a.1 b.1 ∙ of-digits true true a.0 b.0

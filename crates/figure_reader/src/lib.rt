@@ -2,12 +2,8 @@
 #![tactic(auto)]
 
 ghost use Rattle.std.specs.Prelude.{◌≡◌, ◌-◌, ◌^◌};
-ghost use Rattle.typed_figures.specs.Figures.{behind_sign, separator_of, typed, parts_read, figure_of};
+ghost use Rattle.typed_figures.specs.Figures.{behind_sign, separator_of, parts_read, figure_of};
 ghost use Rattle.figure_reader.specs.Digits.{digits_of};
-
-use signed_numbers::Signed;
-use typed_figures::TypedFigure;
-use typed_texts::Numeral;
 
 // A figure's text without its sign.
 fn behind_sign(text: &[u8]) -> &[u8]
@@ -31,14 +27,11 @@ fn separator_of(text: &[u8]) -> u8
 }
 
 // The number of a text of digits, if it is no greater than `most`: 0 where there are none.
-fn digits_of(text: &[u8], most: u64) -> Numeral
+fn digits_of(text: &[u8], most: u64) -> Option<u64>
     ensures { result ≡ digits_of most text.now }
 {
     if text.len() == 0 {
-        return Numeral {
-            value: 0,
-            good: true,
-        };
+        return Some(0);
     }
     typed_numbers::read_number(text, 10, most)
 }
@@ -58,34 +51,21 @@ fn last_weight(decimals: usize) -> u64
     }
 }
 
-// A figure of a number that 64 bits hold.
-fn typed_figure(number: Signed) -> TypedFigure
-    ensures { result ≡ typed number }
-{
-    match number {
-        Signed::Number(millionths) => TypedFigure::Millionths(millionths),
-        Signed::TooLarge => TypedFigure::Unread,
-    }
-}
-
 // What is read of the sign, the whole digits and the decimals.
-fn read_parts(negative: bool, whole: &[u8], decimals: &[u8]) -> TypedFigure
+fn read_parts(negative: bool, whole: &[u8], decimals: &[u8]) -> Option<i64>
     ensures { result ≡ parts_read negative whole.now decimals.now }
 {
     if (6 < decimals.len()) | ((whole.len() == 0) & (decimals.len() == 0)) {
-        return TypedFigure::Unread;
+        return None;
     }
-    let units = digits_of(whole, 9223372036854);
-    let rest = digits_of(decimals, 999999);
-    if !(units.good & rest.good) {
-        return TypedFigure::Unread;
-    }
-    let size = units.value * 1000000 + rest.value * last_weight(decimals.len());
-    typed_figure(signed_numbers::with_sign(negative, size))
+    let units = digits_of(whole, 9223372036854)?;
+    let rest = digits_of(decimals, 999999)?;
+    let size = units * 1000000 + rest * last_weight(decimals.len());
+    signed_numbers::with_sign(negative, size)
 }
 
 // What a typed figure means in millionths of its unit.
-pub fn read_figure(text: &[u8]) -> TypedFigure
+pub fn read_figure(text: &[u8]) -> Option<i64>
     ensures { result ≡ figure_of text.now }
 {
     let negative = typed_parts::starts_with(text, b'-');

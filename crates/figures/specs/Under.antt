@@ -1,24 +1,24 @@
 -- A quantity coded under any label of 8 bits. Under the label that an assignment gives to the quantity this is what the figure is coded to (`coded_under_lem`);
 -- under another it is the same refusal, or the same word but for the label and the parity.
 -- Assumes nothing.
-use Rattle.std.specs.Prelude.{◌≡◌, true, ℕ, ◌+◌, ◌*◌, ◌/◌, ◌%◌, ◌^◌, ◌≤◌, ◌<◌, ℤ}
+use Rattle.std.specs.Prelude.{◌≡◌, true, ℕ, ◌+◌, ◌*◌, ◌/◌, ◌%◌, ◌^◌, ◌≤◌, ◌<◌, ℤ, Result, Ok, Err}
 use Rattle.std.proofs.Common.{sym, ap, ◌∙◌, arith, lit<}
 use Rattle.bits.specs.Fields.{bits}
 use Rattle.bits.specs.Parity.{odd, parity_bit, parity_odd}
 use Rattle.labels.specs.Label.{label_of}
 use Rattle.labels.proofs.LabelLaws.{label_lt, label_low, label_twice}
 use Rattle.encode.specs.Encode.{lower_as, word_as}
-use Rattle.encode.specs.declared.Encoded.{Encoded}
+use Rattle.refusals.specs.declared.Refusal.{Refusal}
 use Rattle.quantities.specs.declared.Quantity.{Quantity}
 use Rattle.figures.specs.Coding.{ready_record}
 use Rattle.figures.specs.Ready.{ready_bits, ready_lower, ready_small}
 
 -- what coding under a label gives, beside what it gives under another: a word of this label with an odd number of ones, alike in bits 9 to 31; or the same refusal
-abbrev pub Alike : ℕ → Encoded → Encoded → Type 0
-Alike label (Encoded.Word w) (Encoded.Word v) = (label_of w ≡ label) × (bits 9 31 w ≡ bits 9 31 v) × (odd w ≡ true)
-Alike label (Encoded.Word w) (Encoded.Refused g) = ⊥
-Alike label (Encoded.Refused f) (Encoded.Word v) = ⊥
-Alike label (Encoded.Refused f) (Encoded.Refused g) = f ≡ g
+abbrev pub Alike : ℕ → Result ℕ Refusal → Result ℕ Refusal → Type 0
+Alike label (Ok w) (Ok v) = (label_of w ≡ label) × (bits 9 31 w ≡ bits 9 31 v) × (odd w ≡ true)
+Alike label (Ok w) (Err g) = ⊥
+Alike label (Err f) (Ok v) = ⊥
+Alike label (Err f) (Err g) = f ≡ g
 
 low : (p u b : ℕ) → b < 256 → (p * 2 ^ 31 + (u * 256 + b)) / 2 ^ 0 % 2 ^ 8 ≡ b
 low p u b h = omega arith

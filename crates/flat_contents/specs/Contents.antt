@@ -1,21 +1,20 @@
 -- The numbers of what stands in a field: a word, a figure, or the place of a text.
 -- Assumes nothing.
-use Rattle.std.specs.Prelude.{ℕ, ◌+◌, pos, length}
+use Rattle.std.specs.Prelude.{ℕ, ◌+◌, pos, length, Result, Ok, Err, ℤ}
 use Rattle.refusals.specs.Numbers.{number_of}
-use Rattle.contents.specs.declared.WordIn.{WordIn}
-use Rattle.contents.specs.declared.FigureIn.{FigureIn}
+use Rattle.refusals.specs.declared.Refusal.{Refusal}
 use Rattle.notes.specs.Note.{NoteText, Text, NoText}
 use Rattle.flat_words.specs.declared.FlatWord.{FlatWord}
 use Rattle.flat_contents.specs.declared.FlatFigure.{FlatFigure}
 use Rattle.flat_contents.specs.declared.FlatNote.{FlatNote}
 
-abbrev pub flat_word_in : WordIn → FlatWord
-flat_word_in (WordIn.Word w) = record { refusal = 0; word = w }
-flat_word_in (WordIn.Refused f) = record { refusal = number_of f; word = 0 }
+abbrev pub flat_word_in : Result ℕ Refusal → FlatWord
+flat_word_in (Ok w) = record { refusal = 0; word = w }
+flat_word_in (Err f) = record { refusal = number_of f; word = 0 }
 
-abbrev pub flat_figure_in : FigureIn → FlatFigure
-flat_figure_in (FigureIn.Figure l m) = record { refusal = 0; label = l; millionths = m }
-flat_figure_in (FigureIn.Refused f) = record { refusal = number_of f; label = 0; millionths = pos 0 }
+abbrev pub flat_figure_in : Result (ℕ × ℤ) Refusal → FlatFigure
+flat_figure_in (Ok (l, m)) = record { refusal = 0; label = l; millionths = m }
+flat_figure_in (Err f) = record { refusal = number_of f; label = 0; millionths = pos 0 }
 
 -- the text of the note at a place, which starts 3 bytes after it; beside a refusal the offset that it has
 abbrev pub flat_note : (place : ℕ) → NoteText → FlatNote

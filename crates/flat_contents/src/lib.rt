@@ -7,9 +7,8 @@ ghost use Rattle.notes.specs.Note.{note_of};
 ghost use Rattle.contents.specs.Contents.{word_in, figure_in};
 ghost use Rattle.flat_contents.specs.Contents.{flat_word_in, flat_figure_in, flat_note};
 
-use contents::{FigureIn, WordIn};
 use flat_words::FlatWord;
-use notes::NoteFound;
+use refusals::Refusal;
 
 // A label and millionths, or a refusal's number beside zeros.
 #[repr(C)]
@@ -30,15 +29,15 @@ pub struct FlatNote {
 }
 
 // The numbers of a word field's content.
-fn flat_word_in(found: WordIn) -> FlatWord
+fn flat_word_in(found: Result<u32, Refusal>) -> FlatWord
     ensures { result ≡ flat_word_in found }
 {
     match found {
-        WordIn::Word(word) => FlatWord {
+        Ok(word) => FlatWord {
             refusal: 0,
             word: word,
         },
-        WordIn::Refused(refusal) => FlatWord {
+        Err(refusal) => FlatWord {
             refusal: refusals::number(refusal),
             word: 0,
         },
@@ -46,16 +45,16 @@ fn flat_word_in(found: WordIn) -> FlatWord
 }
 
 // The numbers of a figure field's content.
-fn flat_figure_in(found: FigureIn) -> FlatFigure
+fn flat_figure_in(found: Result<(u8, i64), Refusal>) -> FlatFigure
     ensures { result ≡ flat_figure_in found }
 {
     match found {
-        FigureIn::Figure(label, millionths) => FlatFigure {
+        Ok((label, millionths)) => FlatFigure {
             refusal: 0,
             label: label,
             millionths: millionths,
         },
-        FigureIn::Refused(refusal) => FlatFigure {
+        Err(refusal) => FlatFigure {
             refusal: refusals::number(refusal),
             label: 0,
             millionths: 0,
@@ -82,12 +81,12 @@ pub fn find_note_flat(sheet: &[u8], place: usize) -> FlatNote
     ensures { result ≡ flat_note place (note_of (sheet_of sheet.now) place) }
 {
     match note_finder::find_note(sheet, place) {
-        NoteFound::Found(start, end) => FlatNote {
+        Ok((start, end)) => FlatNote {
             refusal: 0,
             start: start,
             length: end - start,
         },
-        NoteFound::Refused(refusal, offset) => FlatNote {
+        Err((refusal, offset)) => FlatNote {
             refusal: refusals::number(refusal),
             start: offset,
             length: 0,

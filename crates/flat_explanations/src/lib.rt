@@ -5,7 +5,8 @@ ghost use Rattle.std.specs.Prelude.{◌≡◌};
 ghost use Rattle.explanations.specs.Explanations.{explained_of};
 ghost use Rattle.flat_explanations.specs.Explained.{flat_explained};
 
-use explanations::Explained;
+use reasons::Reason;
+use refusals::Refusal;
 
 // The number of a reason, or its refusal's number beside 0.
 #[repr(C)]
@@ -16,15 +17,15 @@ pub struct FlatExplained {
 }
 
 // The numbers of an answer.
-fn flat_explained(explained: Explained) -> FlatExplained
+fn flat_explained(explained: Result<Reason, Refusal>) -> FlatExplained
     ensures { result ≡ flat_explained explained }
 {
     match explained {
-        Explained::Because(reason) => FlatExplained {
+        Ok(reason) => FlatExplained {
             refusal: 0,
             reason: reason_numbers::number(reason),
         },
-        Explained::Refused(refusal) => FlatExplained {
+        Err(refusal) => FlatExplained {
             refusal: refusals::number(refusal),
             reason: 0,
         },

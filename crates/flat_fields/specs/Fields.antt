@@ -1,7 +1,7 @@
 -- The record that numbers stand for, or their refusal: 2 for no kind, 4 for a code or a source outside its list, 6 for a flag above 1 or a value
 -- that the record cannot hold. What the kind has no field for is not looked at.
 -- Assumes nothing.
-use Rattle.std.specs.Prelude.{◌≡◌, Bool, true, false, cond, ◌&&◌, List, [], ◌∷◌, ℕ, ◌+◌, ◌%◌, eqb, leb}
+use Rattle.std.specs.Prelude.{◌≡◌, Bool, true, false, cond, ◌&&◌, List, [], ◌∷◌, ℕ, ◌+◌, ◌%◌, eqb, leb, Option, Some, None, Result, Ok, Err}
 use Rattle.statuses.specs.Statuses.{binary_status}
 use Rattle.codes.specs.Codes.{marker_of, marker_listed, category_of}
 use Rattle.records.specs.declared.Body.{Body}
@@ -10,8 +10,6 @@ use Rattle.records.specs.declared.Record.{Record}
 use Rattle.refusals.specs.declared.Refusal.{Refusal}
 use Rattle.statuses.specs.declared.Status.{Status}
 use Rattle.records.specs.All.{kinds}
-use Rattle.labels.specs.declared.Lookup.{Lookup}
-use Rattle.decode.specs.declared.Decoded.{Decoded}
 use Rattle.flat_records.specs.Numbers.{numbers}
 use Rattle.flat_records.specs.declared.FlatRecord.{FlatRecord}
 
@@ -24,12 +22,12 @@ abbrev pub flag_of : ℕ → Bool
 flag_of n = eqb n 1
 
 -- the kind at a place of document 01's table
-abbrev pub kind_in : List Kind → ℕ → ℕ → Lookup
-kind_in [] place n = Lookup.Unknown
-kind_in (k ∷ ks) place n = cond (eqb n place) (Lookup.Known k) (kind_in ks (place + 1) n)
+abbrev pub kind_in : List Kind → ℕ → ℕ → Option Kind
+kind_in [] place n = None
+kind_in (k ∷ ks) place n = cond (eqb n place) (Some k) (kind_in ks (place + 1) n)
 
 -- counted from 1
-abbrev pub kind_at : ℕ → Lookup
+abbrev pub kind_at : ℕ → Option Kind
 kind_at n = kind_in kinds 1 n
 
 -- the number of a status
@@ -105,29 +103,29 @@ abbrev pub record_as : Kind → FlatRecord → Record
 record_as k f = record { source = f.source; body = body_from k f }
 
 -- 4 before 6
-abbrev pub record_of_kind : Kind → FlatRecord → Decoded
+abbrev pub record_of_kind : Kind → FlatRecord → Result Record Refusal
 record_of_kind k f =
     cond (leb f.source 3 && listed k f)
-    (cond (fits k f) (Decoded.Accepted (record_as k f)) (Decoded.Refused Refusal.Value))
-    (Decoded.Refused Refusal.Code)
+    (cond (fits k f) (Ok (record_as k f)) (Err Refusal.Value))
+    (Err Refusal.Code)
 
-abbrev pub record_found : Lookup → FlatRecord → Decoded
-record_found (Lookup.Known k) f = record_of_kind k f
-record_found Lookup.Unknown f = Decoded.Refused Refusal.Label
+abbrev pub record_found : Option Kind → FlatRecord → Result Record Refusal
+record_found (Some k) f = record_of_kind k f
+record_found None f = Err Refusal.Label
 
 -- the record that numbers stand for
-abbrev pub record_from : FlatRecord → Decoded
+abbrev pub record_from : FlatRecord → Result Record Refusal
 record_from f = record_found (kind_at f.kind) f
 
 -- ---- one step of the order at a time
 
-pub codes_broken : (k : Kind) (f : FlatRecord) → (leb f.source 3 && listed k f) ≡ false → record_of_kind k f ≡ Decoded.Refused Refusal.Code
+pub codes_broken : (k : Kind) (f : FlatRecord) → (leb f.source 3 && listed k f) ≡ false → record_of_kind k f ≡ Err Refusal.Code
 codes_broken k f c = rw c
 
-pub value_broken : (k : Kind) (f : FlatRecord) → (leb f.source 3 && listed k f) ≡ true → fits k f ≡ false → record_of_kind k f ≡ Decoded.Refused Refusal.Value
+pub value_broken : (k : Kind) (f : FlatRecord) → (leb f.source 3 && listed k f) ≡ true → fits k f ≡ false → record_of_kind k f ≡ Err Refusal.Value
 value_broken k f c v = rw (c, v)
 
-pub all-kept : (k : Kind) (f : FlatRecord) → (leb f.source 3 && listed k f) ≡ true → fits k f ≡ true → record_of_kind k f ≡ Decoded.Accepted (record_as k f)
+pub all-kept : (k : Kind) (f : FlatRecord) → (leb f.source 3 && listed k f) ≡ true → fits k f ≡ true → record_of_kind k f ≡ Ok (record_as k f)
 all-kept k f c v = rw (c, v)
 
 -- ---- a flag is no code

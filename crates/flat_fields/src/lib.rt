@@ -4,33 +4,31 @@
 ghost use Rattle.std.specs.Prelude.{◌≡◌};
 ghost use Rattle.flat_fields.specs.Fields.{kind_at, listed, fits, body_from, record_of_kind, record_from};
 
-use decode::Decoded;
 use flat_records::FlatRecord;
-use labels::Lookup;
 use records::{AzimuthCount, Body, CourseCount, GlideCount, Kind, MlsCount, Record};
 use refusals::Refusal;
 
 // The kind at a place of document 01's table, counted from 1.
-fn kind_at(number: u8) -> Lookup
+fn kind_at(number: u8) -> Option<Kind>
     ensures { result ≡ kind_at number }
 {
     match number {
-        1 => Lookup::Known(Kind::VorAzimuth),
-        2 => Lookup::Known(Kind::VorFrequency),
-        3 => Lookup::Known(Kind::IlsCourse),
-        4 => Lookup::Known(Kind::IlsGlide),
-        5 => Lookup::Known(Kind::IlsFrequency),
-        6 => Lookup::Known(Kind::MlsFrequency),
-        7 => Lookup::Known(Kind::MlsAzimuthDeviation),
-        8 => Lookup::Known(Kind::MlsGlideDeviation),
-        9 => Lookup::Known(Kind::SelectedAzimuth),
-        10 => Lookup::Known(Kind::GreatestGlideAngle),
-        11 => Lookup::Known(Kind::SelectedGlideAngle),
-        12 => Lookup::Known(Kind::Part1),
-        13 => Lookup::Known(Kind::Part2),
-        14 => Lookup::Known(Kind::Part3),
-        15 => Lookup::Known(Kind::Part4),
-        _ => Lookup::Unknown,
+        1 => Some(Kind::VorAzimuth),
+        2 => Some(Kind::VorFrequency),
+        3 => Some(Kind::IlsCourse),
+        4 => Some(Kind::IlsGlide),
+        5 => Some(Kind::IlsFrequency),
+        6 => Some(Kind::MlsFrequency),
+        7 => Some(Kind::MlsAzimuthDeviation),
+        8 => Some(Kind::MlsGlideDeviation),
+        9 => Some(Kind::SelectedAzimuth),
+        10 => Some(Kind::GreatestGlideAngle),
+        11 => Some(Kind::SelectedGlideAngle),
+        12 => Some(Kind::Part1),
+        13 => Some(Kind::Part2),
+        14 => Some(Kind::Part3),
+        15 => Some(Kind::Part4),
+        _ => None,
     }
 }
 
@@ -149,28 +147,25 @@ fn body_from(kind: Kind, f: FlatRecord) -> Body
 }
 
 // The record of a known kind: 4 before 6.
-fn record_of_kind(kind: Kind, f: FlatRecord) -> Decoded
+fn record_of_kind(kind: Kind, f: FlatRecord) -> Result<Record, Refusal>
     ensures { result ≡ record_of_kind kind f }
 {
     let codes = (f.source <= 3) & codes_listed(kind, f);
     if !codes {
-        return Decoded::Refused(Refusal::Code);
+        return Err(Refusal::Code);
     }
     if !fields_fit(kind, f) {
-        return Decoded::Refused(Refusal::Value);
+        return Err(Refusal::Value);
     }
-    Decoded::Accepted(Record {
+    Ok(Record {
         source: f.source,
         body: body_from(kind, f),
     })
 }
 
 // The record that numbers stand for, or the refusal 2, 4 or 6. What the kind has no field for is not looked at.
-pub fn record_from(f: FlatRecord) -> Decoded
+pub fn record_from(f: FlatRecord) -> Result<Record, Refusal>
     ensures { result ≡ record_from f }
 {
-    match kind_at(f.kind) {
-        Lookup::Known(kind) => record_of_kind(kind, f),
-        Lookup::Unknown => Decoded::Refused(Refusal::Label),
-    }
+    record_of_kind(kind_at(f.kind).ok_or(Refusal::Label)?, f)
 }

@@ -1,6 +1,6 @@
 -- The figure in millionths that a count under a label is printed as, or its refusal's number.
 -- Assumes nothing.
-use Rattle.std.specs.Prelude.{◌≡◌, Bool, true, false, cond, ℕ, suc, ltb, ℤ, pos, negsuc, ◌≤ℤ◌}
+use Rattle.std.specs.Prelude.{◌≡◌, Bool, true, false, cond, ℕ, suc, ltb, ℤ, pos, negsuc, ◌≤ℤ◌, Option, Some, None}
 use Rattle.std.proofs.Common.{arith, ltb-true, le→leb}
 use Rattle.std.specs.Int.Signed.{mag, le_z_yes}
 use Rattle.refusals.specs.Numbers.{number_of}
@@ -10,7 +10,6 @@ use Rattle.encode.specs.Encode.{narrow, wide}
 use Rattle.quantities.specs.Nearest.{millionths_of}
 use Rattle.quantities.specs.declared.Quantity.{Quantity}
 use Rattle.figures.specs.Coding.{quantity_at}
-use Rattle.figures.specs.declared.Measured.{Measured}
 use Rattle.flat_figures.specs.declared.FlatMillionths.{FlatMillionths}
 
 -- the bits of a quantity hold a count: 13, or 16 for the MLS deviations
@@ -29,9 +28,9 @@ abbrev pub printed : Quantity → ℤ → FlatMillionths
 printed q c = cond (holds q c) (record { refusal = 0; millionths = millionths_of q c }) (refused (number_of Refusal.Value))
 
 -- 2 where nothing is measured
-abbrev pub printed_measured : Measured → ℤ → FlatMillionths
-printed_measured (Measured.As q) c = printed q c
-printed_measured Measured.Nothing c = refused (number_of Refusal.Label)
+abbrev pub printed_measured : Option Quantity → ℤ → FlatMillionths
+printed_measured (Some q) c = printed q c
+printed_measured None c = refused (number_of Refusal.Label)
 
 -- a count, under a label of document 01
 abbrev pub printed_of : ℕ → ℤ → FlatMillionths

@@ -7,7 +7,6 @@ ghost use Rattle.figures.specs.Coding.{coded_of};
 ghost use Rattle.flat_words.specs.Words.{flat_word};
 ghost use Rattle.flat_figures.specs.Printing.{holds, refused, printed, printed_of};
 
-use figures::Measured;
 use flat_words::FlatWord;
 use quantities::Quantity;
 
@@ -81,7 +80,7 @@ pub fn print_count_flat(label: u32, count: i64) -> FlatMillionths
     ensures { result ≡ printed_of label count }
 {
     match coder::find_quantity(label as u64) {
-        Measured::As(quantity) => printed(quantity, count),
-        Measured::Nothing => refused(2),
+        Some(quantity) => printed(quantity, count),
+        None => refused(2),
     }
 }

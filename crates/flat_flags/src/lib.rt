@@ -8,5 +8,5 @@ ghost use Rattle.codes.specs.Codes.{flag_bit};
 pub fn flag_number(flag: bool) -> u8
     ensures { result ≡ flag_bit flag }
 {
-    if flag { 1 } else { 0 }
+    flag as u8
 }

@@ -1,13 +1,12 @@
 -- A record's numbers stand for that record: nothing is lost.
 -- Assumes nothing.
-use Rattle.std.specs.Prelude.{◌≡◌, refl, ℕ, ◌≤◌, leb}
+use Rattle.std.specs.Prelude.{◌≡◌, refl, ℕ, ◌≤◌, leb, Ok}
 use Rattle.std.proofs.Common.{ap, ◌∙◌, mod-eq_of_lt, arith, le-leb}
 use Rattle.codes.specs.Codes.{marker_of_lem, category_of_lem, flag-of}
 use Rattle.records.specs.Kinds.{kind_of}
 use Rattle.records.specs.declared.Body.{Body}
 use Rattle.records.specs.declared.Kind.{Kind}
 use Rattle.records.specs.declared.Record.{Record}
-use Rattle.decode.specs.declared.Decoded.{Decoded}
 use Rattle.roundtrip.specs.Forth.{marker_listed_lem}
 use Rattle.flat_records.specs.Numbers.{flat_body, flat_of}
 use Rattle.flat_records.specs.declared.FlatRecord.{FlatRecord}
@@ -59,7 +58,7 @@ represents s (Body.Part4 g c) h =
     record { codes = refl; others = both (flag-fits g) (short_fits c h); body = λ i. Body.Part4 (flag-of g i) (short c h i) }
 
 -- a record with a legal source, whose numbers their types hold, is what its numbers stand for
-pub record_back : (r : Record) → r.source ≤ 3 → Bounded r.body → record_from (flat_of (Decoded.Accepted r)) ≡ Decoded.Accepted r
+pub record_back : (r : Record) → r.source ≤ 3 → Bounded r.body → record_from (flat_of (Ok r)) ≡ Ok r
 record_back r h b =
     let f : FlatRecord = flat_body r.source r.body in
     let k : Kind = kind_of r.body in
@@ -67,4 +66,4 @@ record_back r h b =
     let source = (heads r.source r.body).1 in
     read_as r.source r.body
     ∙ all-kept k f (both (ap (λ (n : ℕ). leb n 3) source ∙ le-leb r.source 3 h) s.codes) s.others
-    ∙ (λ i. Decoded.Accepted (record { source = source i; body = s.body i }))
+    ∙ (λ i. Ok (record { source = source i; body = s.body i }))

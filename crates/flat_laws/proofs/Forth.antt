@@ -1,14 +1,12 @@
 -- The record that numbers stand for has those numbers in the fields of its kind, and zero in every other.
 -- Assumes nothing.
-use Rattle.std.specs.Prelude.{◌≡◌, refl, true, ℕ, leb}
+use Rattle.std.specs.Prelude.{◌≡◌, refl, true, ℕ, leb, Option, Some, None, Ok}
 use Rattle.std.proofs.Common.{sym, ap, ◌∙◌, arith}
 use Rattle.bits.specs.Laws.{both_true}
 use Rattle.codes.specs.Codes.{marker_listed, marker_code_lem}
 use Rattle.records.specs.All.{place_of}
 use Rattle.records.specs.declared.Kind.{Kind}
 use Rattle.records.specs.declared.Record.{Record}
-use Rattle.labels.specs.declared.Lookup.{Lookup}
-use Rattle.decode.specs.declared.Decoded.{Decoded}
 use Rattle.flat_records.specs.Numbers.{with_count, with_value, part, flat_body, flat_of}
 use Rattle.flat_records.specs.declared.FlatRecord.{FlatRecord}
 use Rattle.flat_fields.specs.Fields.{status_listed, kind_at, listed, is_flag, is_short, fits, body_from, record_found, record_from}
@@ -43,13 +41,13 @@ module _ (f : FlatRecord) where
       let a = both_true (is_flag f.parity_good) (is_short f.value) v in
       λ i. part (p i) f.source (flag-number f.parity_good a.0 i) 0 (short f.value a.1 i)
 
-found_forth : (f : FlatRecord) (r : Record) (l : Lookup) → kind_at f.kind ≡ l → record_found l f ≡ Decoded.Accepted r
-    → flat_of (Decoded.Accepted r) ≡ only_found l f
-found_forth f r (Lookup.Known k) q e =
+found_forth : (f : FlatRecord) (r : Record) (l : Option Kind) → kind_at f.kind ≡ l → record_found l f ≡ Ok r
+    → flat_of (Ok r) ≡ only_found l f
+found_forth f r (Some k) q e =
     let p = passed k f r e in
-    sym (ap (λ (x : Record). flat_of (Decoded.Accepted x)) p.reads) ∙ body_forth f k (place_of_lem f.kind k q) p.codes p.others
-found_forth f r Lookup.Unknown q e = let z : ◌≡◌ {A = ℕ} 0 1 = cc in absurd (omega arith)
+    sym (ap (λ (x : Record). flat_of (Ok x)) p.reads) ∙ body_forth f k (place_of_lem f.kind k q) p.codes p.others
+found_forth f r None q e = let z : ◌≡◌ {A = ℕ} 0 1 = cc in absurd (omega arith)
 
 -- numbers that stand for a record are the record's numbers, in the fields that are looked at
-pub record_forth : (f : FlatRecord) (r : Record) → record_from f ≡ Decoded.Accepted r → flat_of (Decoded.Accepted r) ≡ kept f
+pub record_forth : (f : FlatRecord) (r : Record) → record_from f ≡ Ok r → flat_of (Ok r) ≡ kept f
 record_forth f r e = found_forth f r (kind_at f.kind) refl e

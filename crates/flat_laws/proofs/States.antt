@@ -1,13 +1,13 @@
 -- The numbers that a step gives back stand for the state that the reassembly is then in.
 -- Assumes nothing.
-use Rattle.std.specs.Prelude.{◌≡◌, refl, ℕ, ◌/◌, ◌<◌, eqb}
+use Rattle.std.specs.Prelude.{◌≡◌, refl, ℕ, ◌/◌, ◌<◌, eqb, Result, Ok, Err}
 use Rattle.bits.specs.Fields.{bits}
 use Rattle.reassembly_parts.specs.Take.{take_of}
 use Rattle.reassembly_parts.specs.declared.Part.{Part}
 use Rattle.reassembly_parts.specs.declared.Reassembly.{Reassembly}
 use Rattle.part_words.specs.Parts.{part_in}
 use Rattle.reassembly.specs.Step.{step_of, take_word}
-use Rattle.part_words.specs.declared.PartIn.{PartIn}
+use Rattle.refusals.specs.declared.Refusal.{Refusal}
 use Rattle.reassembly.specs.declared.Reassembler.{Reassembler}
 use Rattle.flat_reassembly.specs.Steps.{first, second, third, state_of, partial_of, held_by, reassembled}
 use Rattle.flat_reassembly.specs.declared.Partial.{Partial}
@@ -45,9 +45,9 @@ take_short (Reassembly.AfterOne s a) (Part.Four t d m) h i = tt
 take_short (Reassembly.AfterTwo s a b) (Part.Four t d m) h i = tt
 take_short (Reassembly.AfterThree s a b c) (Part.Four t d m) h i = same_short s t _ tt
 
-step_short : (s : Reassembler) (x : PartIn) → Short s.group_c → ShortPart x → Short (step_of s x).next.group_c
-step_short s (PartIn.Carried p) h i = take_short s.group_c p h i
-step_short s (PartIn.Refused f) h i = h
+step_short : (s : Reassembler) (x : Result Part Refusal) → Short s.group_c → ShortPart x → Short (step_of s x).next.group_c
+step_short s (Ok p) h i = take_short s.group_c p h i
+step_short s (Err f) h i = h
 
 -- the numbers given back stand for the state after the word, for all numbers and every word
 pub next_state : (p : Partial) (w : ℕ) → state_of (reassembled p w).next ≡ (take_word (held_by p) w).next.group_c

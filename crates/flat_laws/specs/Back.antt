@@ -1,11 +1,11 @@
 -- A record's numbers stand for that record: nothing is lost.
 -- Assumes nothing.
-use Rattle.std.specs.Prelude.{◌≡◌, refl, Bool, true, ◌&&◌, ℕ, ◌%◌, ◌^◌, ◌<◌, leb}
+use Rattle.std.specs.Prelude.{◌≡◌, refl, Bool, true, ◌&&◌, ℕ, ◌%◌, ◌^◌, ◌<◌, leb, Option, Some}
 use Rattle.std.proofs.Common.{ap, ap₂, mod-eq_of_lt, arith, le-leb, leb-true}
 use Rattle.bits.specs.Laws.{both_true}
 use Rattle.records.specs.Kinds.{kind_of}
 use Rattle.records.specs.declared.Body.{Body}
-use Rattle.labels.specs.declared.Lookup.{Lookup}
+use Rattle.records.specs.declared.Kind.{Kind}
 use Rattle.encode.specs.Encode.{values_legal}
 use Rattle.flat_records.specs.Numbers.{flat_body}
 use Rattle.flat_records.specs.declared.FlatRecord.{FlatRecord}
@@ -63,7 +63,7 @@ pub record Represents (b : Body) (f : FlatRecord) : Type 0 where
   pub body : body_from (kind_of b) f ≡ b
 
 -- in the numbers of every body stand no refusal, the source, and the place of its kind
-pub heads : (s : ℕ) (b : Body) → ((flat_body s b).refusal ≡ 0) × ((flat_body s b).source ≡ s) × (kind_at (flat_body s b).kind ≡ Lookup.Known (kind_of b))
+pub heads : (s : ℕ) (b : Body) → ((flat_body s b).refusal ≡ 0) × ((flat_body s b).source ≡ s) × (kind_at (flat_body s b).kind ≡ Some (kind_of b))
 heads s (Body.VorAzimuth t m c) = (refl, refl, refl)
 heads s (Body.VorFrequency t f) = (refl, refl, refl)
 heads s (Body.IlsCourse t n c) = (refl, refl, refl)
@@ -82,4 +82,4 @@ heads s (Body.Part4 g c) = (refl, refl, refl)
 
 -- so they are looked at as those of its kind
 pub read_as : (s : ℕ) (b : Body) → record_from (flat_body s b) ≡ record_of_kind (kind_of b) (flat_body s b)
-read_as s b = ap (λ (l : Lookup). record_found l (flat_body s b)) (heads s b).2
+read_as s b = ap (λ (l : Option Kind). record_found l (flat_body s b)) (heads s b).2

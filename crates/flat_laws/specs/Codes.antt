@@ -1,6 +1,6 @@
 -- The numbers of statuses, markers, categories and flags are in their lists, and each gives its code back; so do the places of the kinds.
 -- Assumes nothing.
-use Rattle.std.specs.Prelude.{◌≡◌, refl, Bool, true, false, cond, List, [], ◌∷◌, ℕ, zero, suc, ◌+◌, ◌≤◌, eqb, leb}
+use Rattle.std.specs.Prelude.{◌≡◌, refl, Bool, true, false, cond, List, [], ◌∷◌, ℕ, zero, suc, ◌+◌, ◌≤◌, eqb, leb, Some}
 use Rattle.std.proofs.Common.{sym, ap, ◌∙◌, arith, eqb-true, leb-true}
 use Rattle.bits.specs.Laws.{both_true}
 use Rattle.codes.specs.Codes.{category_code, category_of, category_code_lem, flag_bit, flag-bit}
@@ -8,7 +8,6 @@ use Rattle.codes.specs.declared.Category.{Category}
 use Rattle.records.specs.declared.Kind.{Kind}
 use Rattle.statuses.specs.declared.Status.{Status}
 use Rattle.records.specs.All.{kinds, agree, place_of}
-use Rattle.labels.specs.declared.Lookup.{Lookup}
 use Rattle.flat_records.specs.Numbers.{status_number}
 use Rattle.flat_fields.specs.Fields.{status_of, status_listed, is_flag, kind_in, kind_at}
 
@@ -61,24 +60,24 @@ flag-number n e = flag-bit n (omega (arith, leb-true n 1 e))
 
 -- ---- a place of document 01's table, counted from 1, gives its kind, and only that place does
 
-pub kind_at_lem : (k : Kind) → kind_at (place_of k) ≡ Lookup.Known k
-kind_at_lem = agree (λ k. kind_at (place_of k)) Lookup.Known refl
+pub kind_at_lem : (k : Kind) → kind_at (place_of k) ≡ Some k
+kind_at_lem = agree (λ k. kind_at (place_of k)) Some refl
 
 -- a run of the table, at its places
 abbrev Placed : List Kind → ℕ → Type 0
 Placed [] place = Unit
 Placed (k ∷ ks) place = (place_of k ≡ place) × Placed ks (place + 1)
 
-place_in : (ks : List Kind) (place n : ℕ) (k : Kind) → Placed ks place → kind_in ks place n ≡ Lookup.Known k → place_of k ≡ n
+place_in : (ks : List Kind) (place n : ℕ) (k : Kind) → Placed ks place → kind_in ks place n ≡ Some k → place_of k ≡ n
 place_in [] place n k p e = let z : ◌≡◌ {A = ℕ} 0 1 = cc in absurd (omega arith)
 place_in (j ∷ ks) place n k p e = by (eqb n place) refl e (place_in ks (place + 1) n k p.1)
   where
-    by : (b : Bool) → eqb n place ≡ b → cond b (Lookup.Known j) (kind_in ks (place + 1) n) ≡ Lookup.Known k
-        → (kind_in ks (place + 1) n ≡ Lookup.Known k → place_of k ≡ n) → place_of k ≡ n
+    by : (b : Bool) → eqb n place ≡ b → cond b (Some j) (kind_in ks (place + 1) n) ≡ Some k
+        → (kind_in ks (place + 1) n ≡ Some k → place_of k ≡ n) → place_of k ≡ n
     by true t q rest = let i : j ≡ k = cc in ap place_of (sym i) ∙ p.0 ∙ sym (eqb-true n place t)
     by false t q rest = rest q
 
-pub place_of_lem : (n : ℕ) (k : Kind) → kind_at n ≡ Lookup.Known k → place_of k ≡ n
+pub place_of_lem : (n : ℕ) (k : Kind) → kind_at n ≡ Some k → place_of k ≡ n
 place_of_lem n k e =
     place_in kinds 1 n k
     (refl, (refl, (refl, (refl, (refl, (refl, (refl, (refl, (refl, (refl, (refl, (refl, (refl, (refl, (refl, tt)))))))))))))))

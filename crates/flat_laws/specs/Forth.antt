@@ -1,14 +1,12 @@
 -- The record that numbers stand for has those numbers in the fields of its kind, and zero in every other.
 -- Assumes nothing.
-use Rattle.std.specs.Prelude.{◌≡◌, refl, Bool, true, false, cond, ◌&&◌, ℕ, ◌%◌, eqb, leb}
+use Rattle.std.specs.Prelude.{◌≡◌, refl, Bool, true, false, cond, ◌&&◌, ℕ, ◌%◌, eqb, leb, Option, Some, None, Result, Ok, Err}
 use Rattle.std.proofs.Common.{mod-eq_of_lt, arith, leb-true}
 use Rattle.bits.specs.Laws.{both_true}
 use Rattle.codes.specs.Codes.{flag_bit}
 use Rattle.records.specs.declared.Kind.{Kind}
 use Rattle.records.specs.declared.Record.{Record}
 use Rattle.refusals.specs.declared.Refusal.{Refusal}
-use Rattle.labels.specs.declared.Lookup.{Lookup}
-use Rattle.decode.specs.declared.Decoded.{Decoded}
 use Rattle.flat_records.specs.Numbers.{status_number, with_count, with_value, part}
 use Rattle.flat_records.specs.declared.FlatRecord.{FlatRecord}
 use Rattle.flat_fields.specs.Fields.{status_of, status_listed, kind_at, listed, is_flag, is_octet, is_short, fits, record_as, record_of_kind}
@@ -32,9 +30,9 @@ only Kind.Part2 f = part f.kind f.source 0 0 f.value
 only Kind.Part3 f = part f.kind f.source 0 0 f.value
 only Kind.Part4 f = part f.kind f.source f.parity_good 0 f.value
 
-abbrev pub only_found : Lookup → FlatRecord → FlatRecord
-only_found (Lookup.Known k) f = only k f
-only_found Lookup.Unknown f = f
+abbrev pub only_found : Option Kind → FlatRecord → FlatRecord
+only_found (Some k) f = only k f
+only_found None f = f
 
 -- the numbers that are looked at
 abbrev pub kept : FlatRecord → FlatRecord
@@ -65,7 +63,7 @@ module _ (f : FlatRecord) where
       λ i. with_value (p i) f.source (status_number_lem f.status c i) 0 (flag-number f.manual a.0 i) (short f.value a.1 i)
 
 -- a test that is passed
-cond_accepted : (b : Bool) (d : Decoded) (e : Refusal) (r : Record) → cond b d (Decoded.Refused e) ≡ Decoded.Accepted r → (b ≡ true) × (d ≡ Decoded.Accepted r)
+cond_accepted : (b : Bool) (d : Result Record Refusal) (e : Refusal) (r : Record) → cond b d (Err e) ≡ Ok r → (b ≡ true) × (d ≡ Ok r)
 cond_accepted true d e r q = (refl, q)
 cond_accepted false d e r q = let z : ◌≡◌ {A = ℕ} 0 1 = cc in absurd (omega arith)
 
@@ -76,7 +74,7 @@ pub record Passed (k : Kind) (f : FlatRecord) (r : Record) : Type 0 where
   pub others : fits k f ≡ true
   pub reads : record_as k f ≡ r
 
-pub passed : (k : Kind) (f : FlatRecord) (r : Record) → record_of_kind k f ≡ Decoded.Accepted r → Passed k f r
+pub passed : (k : Kind) (f : FlatRecord) (r : Record) → record_of_kind k f ≡ Ok r → Passed k f r
 passed k f r e =
     let c = cond_accepted (leb f.source 3 && listed k f) _ Refusal.Code r e in
     let v = cond_accepted (fits k f) _ Refusal.Value r c.1 in

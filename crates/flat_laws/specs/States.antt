@@ -1,6 +1,6 @@
 -- The numbers that a step gives back stand for the state that the reassembly is then in.
 -- Assumes nothing.
-use Rattle.std.specs.Prelude.{◌≡◌, refl, Bool, true, false, cond, ℕ, ◌/◌, ◌%◌, ◌^◌, ◌<◌, eqb}
+use Rattle.std.specs.Prelude.{◌≡◌, refl, Bool, true, false, cond, ℕ, ◌/◌, ◌%◌, ◌^◌, ◌<◌, eqb, Result, Ok, Err}
 use Rattle.std.proofs.Common.{subst, mod-lt, arith, lit<}
 use Rattle.labels.proofs.Assignment.{document01}
 use Rattle.reassembly_parts.specs.Take.{dropped, from_same}
@@ -10,7 +10,7 @@ use Rattle.reassembly_parts.specs.declared.Step.{Step}
 use Rattle.part_words.specs.Carries.{Carries}
 use Rattle.part_words.proofs.Carries.{carries}
 use Rattle.part_words.specs.Parts.{part_in}
-use Rattle.part_words.specs.declared.PartIn.{PartIn}
+use Rattle.refusals.specs.declared.Refusal.{Refusal}
 use Rattle.flat_reassembly.specs.Steps.{first, second, third, joined}
 
 -- every content has 16 bits: of a state, of a part, of the part in a word
@@ -26,9 +26,9 @@ content (Part.Two s a) = a
 content (Part.Three s a) = a
 content (Part.Four s a m) = a
 
-abbrev pub ShortPart : PartIn → Type 0
-ShortPart (PartIn.Carried p) = content p < 65536
-ShortPart (PartIn.Refused f) = Unit
+abbrev pub ShortPart : Result Part Refusal → Type 0
+ShortPart (Ok p) = content p < 65536
+ShortPart (Err f) = Unit
 
 -- ---- contents joined and taken apart
 
@@ -69,6 +69,6 @@ content_short w (Part.Four s c g) h = subst (λ (n : ℕ). n < 65536) h.2 (low (
 pub part_short : (w : ℕ) → ShortPart (part_in w)
 part_short w = by (part_in w) refl
   where
-    by : (x : PartIn) → part_in w ≡ x → ShortPart x
-    by (PartIn.Carried p) e = content_short w p ((carries document01 w p).0 e)
-    by (PartIn.Refused f) e = tt
+    by : (x : Result Part Refusal) → part_in w ≡ x → ShortPart x
+    by (Ok p) e = content_short w p ((carries document01 w p).0 e)
+    by (Err f) e = tt

@@ -5,7 +5,7 @@ ghost use Rattle.std.specs.Prelude.{◌≡◌};
 ghost use Rattle.listing.specs.Listing.{text_of, listed_of, buffer_of};
 ghost use Rattle.flat_listing.specs.Listed.{flat_listed};
 
-use listing::Listed;
+use refusals::Refusal;
 
 // The length of a listing, or a refusal's number beside 0.
 #[repr(C)]
@@ -16,15 +16,15 @@ pub struct FlatListed {
 }
 
 // The numbers of what a listing gives.
-fn flat_listed(listed: Listed) -> FlatListed
+fn flat_listed(listed: Result<usize, Refusal>) -> FlatListed
     ensures { result ≡ flat_listed listed }
 {
     match listed {
-        Listed::Length(length) => FlatListed {
+        Ok(length) => FlatListed {
             refusal: 0,
             length: length,
         },
-        Listed::Refused(refusal) => FlatListed {
+        Err(refusal) => FlatListed {
             refusal: refusals::number(refusal),
             length: 0,
         },

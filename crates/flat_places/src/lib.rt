@@ -9,8 +9,7 @@ ghost use Rattle.contents.specs.Contents.{word_bytes, figure_bytes};
 ghost use Rattle.writer.specs.Write.{write_of, group_of};
 ghost use Rattle.flat_places.specs.Places.{flat_checked, flat_written};
 
-use sheet::Checked;
-use writer::Written;
+use refusals::Refusal;
 
 // An offset: of a legal sheet 0, of a field that was written the place after it; beside a refusal's number the offset that it has.
 #[repr(C)]
@@ -21,15 +20,15 @@ pub struct FlatPlace {
 }
 
 // The numbers of what a check says.
-fn flat_checked(checked: Checked) -> FlatPlace
+fn flat_checked(checked: Result<(), (Refusal, usize)>) -> FlatPlace
     ensures { result ≡ flat_checked checked }
 {
     match checked {
-        Checked::Legal => FlatPlace {
+        Ok(()) => FlatPlace {
             refusal: 0,
             offset: 0,
         },
-        Checked::Refused(refusal, offset) => FlatPlace {
+        Err((refusal, offset)) => FlatPlace {
             refusal: refusals::number(refusal),
             offset: offset,
         },
@@ -37,15 +36,15 @@ fn flat_checked(checked: Checked) -> FlatPlace
 }
 
 // The numbers of what came of writing a field.
-fn flat_written(written: Written) -> FlatPlace
+fn flat_written(written: Result<usize, (Refusal, usize)>) -> FlatPlace
     ensures { result ≡ flat_written written }
 {
     match written {
-        Written::End(end) => FlatPlace {
+        Ok(end) => FlatPlace {
             refusal: 0,
             offset: end,
         },
-        Written::Refused(refusal, place) => FlatPlace {
+        Err((refusal, place)) => FlatPlace {
             refusal: refusals::number(refusal),
             offset: place,
         },

@@ -5,7 +5,8 @@ ghost use Rattle.std.specs.Prelude.{◌≡◌};
 ghost use Rattle.chart.specs.Words.{chart_point};
 ghost use Rattle.flat_points.specs.Points.{flat_point};
 
-use chart::Charted;
+use chart::ChartPoint;
+use refusals::Refusal;
 
 // A chart point as numbers, or its refusal's number beside zeros.
 #[repr(C)]
@@ -17,16 +18,16 @@ pub struct FlatPoint {
 }
 
 // The numbers of a chart point, or of its refusal.
-pub fn flat_point(charted: Charted) -> FlatPoint
+pub fn flat_point(charted: Result<ChartPoint, Refusal>) -> FlatPoint
     ensures { result ≡ flat_point charted }
 {
     match charted {
-        Charted::Point(point) => FlatPoint {
+        Ok(point) => FlatPoint {
             refusal: 0,
             course: point.course,
             glide: point.glide,
         },
-        Charted::Refused(refusal) => FlatPoint {
+        Err(refusal) => FlatPoint {
             refusal: refusals::number(refusal),
             course: 0.0,
             glide: 0.0,

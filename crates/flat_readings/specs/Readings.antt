@@ -1,12 +1,13 @@
 -- The numbers of a reading; `shown-back` says that they stand for that reading.
 -- Assumes nothing.
-use Rattle.std.specs.Prelude.{◌≡◌, refl, cond, ℕ, eqb, Float, ℤ, pos, nat_abs}
+use Rattle.std.specs.Prelude.{◌≡◌, refl, cond, ℕ, eqb, Float, ℤ, pos, nat_abs, Result, Ok, Err}
 use Rattle.std.specs.Float.{binary64}
 use Rattle.std.specs.Float.Ieee.{of_bits}
 use Rattle.codes.specs.Codes.{flag_bit}
 use Rattle.refusals.specs.Numbers.{number_of}
 use Rattle.decode.specs.Decode.{decode_of}
-use Rattle.decode.specs.declared.Decoded.{Decoded}
+use Rattle.records.specs.declared.Record.{Record}
+use Rattle.refusals.specs.declared.Refusal.{Refusal}
 use Rattle.readings.specs.Readings.{reading_of}
 use Rattle.readings.specs.declared.Reading.{Reading}
 use Rattle.views.specs.declared.Setting.{Setting}
@@ -48,9 +49,9 @@ flat_shown (Shown.Ready reading) = flat_reading 1 reading
 flat_shown (Shown.Test reading) = flat_reading 2 reading
 flat_shown Shown.Absent = absent 0
 
-abbrev pub flat_read : Decoded → FlatReading
-flat_read (Decoded.Accepted r) = flat_shown (reading_of r.body)
-flat_read (Decoded.Refused f) = absent (number_of f)
+abbrev pub flat_read : Result Record Refusal → FlatReading
+flat_read (Ok r) = flat_shown (reading_of r.body)
+flat_read (Err f) = absent (number_of f)
 
 -- the numbers of a word's reading
 abbrev pub reading_in : ℕ → FlatReading

@@ -4,7 +4,6 @@
 ghost use Rattle.std.specs.Prelude.{◌≡◌, pos};
 ghost use Rattle.flat_readings.specs.Readings.{rounded, whole, flat_setting, flat_reading, absent, flat_shown, reading_in};
 
-use decode::Decoded;
 use readings::{Reading, Shown};
 use views::Setting;
 
@@ -125,10 +124,10 @@ pub fn reading_flat(word: u32) -> FlatReading
     ensures { result ≡ reading_in word }
 {
     match decoder::decode(word) {
-        Decoded::Accepted(record) => {
+        Ok(record) => {
             let body = record.body;
             flat_shown(record_readings::reading_of(body))
         }
-        Decoded::Refused(refusal) => absent(refusals::number(refusal)),
+        Err(refusal) => absent(refusals::number(refusal)),
     }
 }

@@ -30,7 +30,7 @@ pub struct FlatStep {
 }
 
 // The answer to one word.
-#[derive(Clone, Copy)]
+#[derive(Clone, Copy, PartialEq, Eq, Debug)]
 pub struct FlatAnswer {
     pub refusal: u8,
     pub complete: u8,

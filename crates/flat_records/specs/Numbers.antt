@@ -1,13 +1,14 @@
 -- The numbers of a record, of each kind, and of a refusal.
 -- Assumes nothing.
-use Rattle.std.specs.Prelude.{ℕ, ℤ, pos}
+use Rattle.std.specs.Prelude.{ℕ, ℤ, pos, Result, Ok, Err}
 use Rattle.codes.specs.Codes.{marker_code, category_code, flag_bit}
 use Rattle.refusals.specs.Numbers.{number_of}
 use Rattle.records.specs.All.{place_of}
 use Rattle.records.specs.Kinds.{kind_of}
 use Rattle.records.specs.declared.Body.{Body}
 use Rattle.statuses.specs.declared.Status.{Status}
-use Rattle.decode.specs.declared.Decoded.{Decoded}
+use Rattle.records.specs.declared.Record.{Record}
+use Rattle.refusals.specs.declared.Refusal.{Refusal}
 use Rattle.flat_records.specs.declared.FlatRecord.{FlatRecord}
 
 -- 1 failure, 2 nodata, 3 test, 4 ready; 0 is left for none
@@ -71,6 +72,6 @@ abbrev pub flat_body : ℕ → Body → FlatRecord
 flat_body s b = flat_numbers (place_of (kind_of b)) s b
 
 -- the numbers of a word's record, or of its refusal
-abbrev pub flat_of : Decoded → FlatRecord
-flat_of (Decoded.Accepted r) = flat_body r.source r.body
-flat_of (Decoded.Refused f) = refused (number_of f)
+abbrev pub flat_of : Result Record Refusal → FlatRecord
+flat_of (Ok r) = flat_body r.source r.body
+flat_of (Err f) = refused (number_of f)

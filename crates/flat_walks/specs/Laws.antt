@@ -1,16 +1,15 @@
 -- The numbers of a walk stand for it, so a walk from numbers to numbers gives what the walk gives; and a field that is given lies inside the sheet.
 -- Assumes nothing.
-use Rattle.std.specs.Prelude.{◌≡◌, refl, Bool, true, false, cond, List, [], ◌∷◌, ◌⊎◌, ℕ, zero, suc, ◌+◌, ◌≤◌, ◌<◌, eqb, length, take, drop}
+use Rattle.std.specs.Prelude.{◌≡◌, refl, Bool, true, false, cond, List, [], ◌∷◌, ◌⊎◌, ℕ, zero, suc, ◌+◌, ◌≤◌, ◌<◌, eqb, length, take, drop, Option, Some, None, Result, Ok, Err}
 use Rattle.std.proofs.Common.{inl, inr, ⊎_elim, arith}
 use Rattle.refusals.specs.Numbers.{number_of, numbered}
-use Rattle.refusals.specs.declared.Numbered.{Numbered}
+use Rattle.walk.specs.declared.Position.{Position}
 use Rattle.refusals.specs.declared.Refusal.{Refusal}
-use Rattle.fields.specs.declared.Start.{Start}
+use Rattle.walk.specs.declared.FieldAt.{FieldAt}
+use Rattle.fields.specs.declared.FieldKind.{FieldKind}
 use Rattle.fields.proofs.Limits.{sheet_refusal}
 use Rattle.fields.specs.Run.{Scan, Fields, Refused, sheet_of}
 use Rattle.fields.specs.Start.{start_of}
-use Rattle.walk.specs.declared.Given.{Given}
-use Rattle.walk.specs.declared.Walk.{Walk}
 use Rattle.walk.proofs.Stands.{advances}
 use Rattle.walk.specs.Step.{walk_of, start_walk, given_at}
 use Rattle.walk.specs.Step.{level_of, step_of}
@@ -24,11 +23,11 @@ abbrev pub IsSheets : Refusal → Type 0
 IsSheets f = ((9 ≤ number_of f) × (number_of f ≤ 12)) ⊎ (f ≡ Refusal.Oversize)
 
 -- a walk over some sheet: its refusal, if it has one, is one that a sheet can have
-abbrev pub OfSheet : Walk → Type 0
-OfSheet (Walk.At w) = Unit {0}
-OfSheet (Walk.Refused f p) = IsSheets f
+abbrev pub OfSheet : Result Position (Refusal × ℕ) → Type 0
+OfSheet (Ok w) = Unit {0}
+OfSheet (Err (f, p)) = IsSheets f
 
-pub nine_to_twelve : (f : Refusal) → 9 ≤ number_of f → number_of f ≤ 12 → numbered sheet_refusals (number_of f) ≡ Numbered.Refusal f
+pub nine_to_twelve : (f : Refusal) → 9 ≤ number_of f → number_of f ≤ 12 → numbered sheet_refusals (number_of f) ≡ Some f
 nine_to_twelve Refusal.Parity h k = absurd (omega arith)
 nine_to_twelve Refusal.Label h k = absurd (omega arith)
 nine_to_twelve Refusal.ZeroBit h k = absurd (omega arith)
@@ -58,26 +57,26 @@ abbrev pub AllSheets : List Refusal → Type 0
 AllSheets [] = Unit {0}
 AllSheets (g ∷ gs) = IsSheets g × AllSheets gs
 
-abbrev pub Found : Numbered → Type 0
-Found (Numbered.Refusal f) = IsSheets f
-Found Numbered.Nothing = Unit {0}
+abbrev pub Found : Option Refusal → Type 0
+Found (Some f) = IsSheets f
+Found None = Unit {0}
 
 pub found : (gs : List Refusal) (n : ℕ) → AllSheets gs → Found (numbered gs n)
 found [] n h = tt
 found (g ∷ gs) n h = by (eqb n (number_of g)) (found gs n h.1)
   where
-    by : (b : Bool) → Found (numbered gs n) → Found (cond b (Numbered.Refusal g) (numbered gs n))
+    by : (b : Bool) → Found (numbered gs n) → Found (cond b (Some g) (numbered gs n))
     by true rest = h.0
     by false rest = rest
 
-pub step-of_sheet : (s : List ℕ) (w : Walk) → OfSheet w → OfSheet (step_of s w).next
-step-of_sheet s (Walk.Refused f p) h = h
-step-of_sheet s (Walk.At w) h = by (start_of (level_of w (length s)).depth (drop w.place (take (level_of w (length s)).end s)))
+pub step-of_sheet : (s : List ℕ) (w : Result Position (Refusal × ℕ)) → OfSheet w → OfSheet (step_of s w).next
+step-of_sheet s (Err (f, p)) h = h
+step-of_sheet s (Ok w) h = by (start_of (level_of w (length s)).depth (drop w.place (take (level_of w (length s)).end s)))
   where
-    by : (t : Start) → OfSheet (given_at w (level_of w (length s)).depth t).next
-    by Start.End = tt
-    by (Start.Refused f) = tt
-    by (Start.Field k n) = tt
+    by : (t : Result (Option (FieldKind × ℕ)) Refusal) → OfSheet (given_at w (level_of w (length s)).depth t).next
+    by (Ok None) = tt
+    by (Err f) = tt
+    by (Ok (Some (k, n))) = tt
 
 -- ---- many steps
 
@@ -92,7 +91,7 @@ flat_after (suc n) s w = flat_after n s (stepped s w).next
 pub field_in_sheet : (s : List ℕ) (w : FlatWalk) → 0 < (stepped s w).field.tag → (stepped s w).field.place + 3 + (stepped s w).field.length ≤ length s
 field_in_sheet s w h = by (step_of s (walk_from w)).given refl h
   where
-    by : (g : Given) → (step_of s (walk_from w)).given ≡ g → 0 < (flat_field g).tag → (flat_field g).place + 3 + (flat_field g).length ≤ length s
-    by (Given.Field a) e t = (advances s (walk_from w) a e).in_sheet
-    by (Given.Refused f p) e t = absurd (omega arith)
-    by Given.End e t = absurd (omega arith)
+    by : (g : Result (Option FieldAt) (Refusal × ℕ)) → (step_of s (walk_from w)).given ≡ g → 0 < (flat_field g).tag → (flat_field g).place + 3 + (flat_field g).length ≤ length s
+    by (Ok (Some a)) e t = (advances s (walk_from w) a e).in_sheet
+    by (Err (f, p)) e t = absurd (omega arith)
+    by (Ok None) e t = absurd (omega arith)

@@ -6,8 +6,8 @@ ghost use Rattle.refusals.specs.Numbers.{numbered};
 ghost use Rattle.walk.specs.Step.{start_walk};
 ghost use Rattle.flat_walks.specs.Walks.{sheet_refusals, flat_walk, walk_from, flat_field, flat_step, stepped};
 
-use refusals::{Numbered, Refusal};
-use walk::{Given, Position, Walk, WalkStep};
+use refusals::Refusal;
+use walk::{FieldAt, Position, WalkStep};
 
 // Where a walk stands, as numbers. 9, 10, 11, 12 and 15 stand for a sheet refused so, with the refusal's offset as the place; beside any other number
 // stand the place and the ends of a position.
@@ -41,11 +41,11 @@ pub struct FlatWalked {
 }
 
 // The numbers of what a step gives.
-fn flat_field(given: Given) -> FlatField
+fn flat_field(given: Result<Option<FieldAt>, (Refusal, usize)>) -> FlatField
     ensures { result ≡ flat_field given }
 {
     match given {
-        Given::Field(field) => {
+        Ok(Some(field)) => {
             let kind = field.kind;
             FlatField {
                 refusal: 0,
@@ -55,14 +55,14 @@ fn flat_field(given: Given) -> FlatField
                 length: field.length,
             }
         }
-        Given::Refused(refusal, offset) => FlatField {
+        Err((refusal, offset)) => FlatField {
             refusal: refusals::number(refusal),
             tag: 0,
             depth: 0,
             place: offset,
             length: 0,
         },
-        Given::End => FlatField {
+        Ok(None) => FlatField {
             refusal: 0,
             tag: 0,
             depth: 0,
@@ -73,18 +73,18 @@ fn flat_field(given: Given) -> FlatField
 }
 
 // The numbers of a walk.
-fn flat_walk(walk: Walk) -> FlatWalk
+fn flat_walk(walk: Result<Position, (Refusal, usize)>) -> FlatWalk
     ensures { result ≡ flat_walk walk }
 {
     match walk {
-        Walk::At(position) => FlatWalk {
+        Ok(position) => FlatWalk {
             refusal: 0,
             place: position.place,
             end1: position.end1,
             end2: position.end2,
             end3: position.end3,
         },
-        Walk::Refused(refusal, offset) => FlatWalk {
+        Err((refusal, offset)) => FlatWalk {
             refusal: refusals::number(refusal),
             place: offset,
             end1: 0,
@@ -95,27 +95,27 @@ fn flat_walk(walk: Walk) -> FlatWalk
 }
 
 // The refusal of a sheet that has this number, or none.
-fn sheet_refusal(number: u8) -> Numbered
+fn sheet_refusal(number: u8) -> Option<Refusal>
     ensures { result ≡ numbered sheet_refusals number }
 {
     match number {
-        9 => Numbered::Refusal(Refusal::Truncated),
-        10 => Numbered::Refusal(Refusal::Tag),
-        11 => Numbered::Refusal(Refusal::Length),
-        12 => Numbered::Refusal(Refusal::Depth),
-        15 => Numbered::Refusal(Refusal::Oversize),
-        _ => Numbered::Nothing,
+        9 => Some(Refusal::Truncated),
+        10 => Some(Refusal::Tag),
+        11 => Some(Refusal::Length),
+        12 => Some(Refusal::Depth),
+        15 => Some(Refusal::Oversize),
+        _ => None,
     }
 }
 
 // The walk that numbers stand for.
-fn walk_from(walk: FlatWalk) -> Walk
+fn walk_from(walk: FlatWalk) -> Result<Position, (Refusal, usize)>
     ensures { result ≡ walk_from walk }
 {
     let refusal = walk.refusal;
     match sheet_refusal(refusal) {
-        Numbered::Refusal(refusal) => Walk::Refused(refusal, walk.place),
-        Numbered::Nothing => Walk::At(Position {
+        Some(refusal) => Err((refusal, walk.place)),
+        None => Ok(Position {
             place: walk.place,
             end1: walk.end1,
             end2: walk.end2,

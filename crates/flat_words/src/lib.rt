@@ -4,9 +4,8 @@
 ghost use Rattle.std.specs.Prelude.{◌≡◌};
 ghost use Rattle.flat_words.specs.Words.{flat_word, encode_flat};
 
-use decode::Decoded;
-use encode::Encoded;
 use flat_records::FlatRecord;
+use refusals::Refusal;
 
 // A word, or its refusal's number beside the word 0.
 #[repr(C)]
@@ -17,15 +16,15 @@ pub struct FlatWord {
 }
 
 // The numbers of a word or a refusal.
-pub fn flat_word(encoded: Encoded) -> FlatWord
+pub fn flat_word(encoded: Result<u32, Refusal>) -> FlatWord
     ensures { result ≡ flat_word encoded }
 {
     match encoded {
-        Encoded::Word(word) => FlatWord {
+        Ok(word) => FlatWord {
             refusal: 0,
             word: word,
         },
-        Encoded::Refused(refusal) => FlatWord {
+        Err(refusal) => FlatWord {
             refusal: refusals::number(refusal),
             word: 0,
         },
@@ -36,8 +35,5 @@ pub fn flat_word(encoded: Encoded) -> FlatWord
 pub fn encode_flat(f: FlatRecord) -> FlatWord
     ensures { result ≡ encode_flat f }
 {
-    match flat_fields::record_from(f) {
-        Decoded::Accepted(record) => flat_word(encoder::encode(record)),
-        Decoded::Refused(refusal) => flat_word(Encoded::Refused(refusal)),
-    }
+    flat_word(flat_fields::record_from(f).and_then(encoder::encode))
 }

@@ -6,9 +6,9 @@ ghost use Rattle.codes.specs.Codes.{marker_code, category_code, flag_bit};
 ghost use Rattle.flat_records.specs.Numbers.{status_number, with_count, with_value, part, refused, flat_numbers, flat_of};
 
 use codes::{Category, Marker};
-use decode::Decoded;
 use flat_records::FlatRecord;
-use records::Body;
+use records::{Body, Record};
+use refusals::Refusal;
 use statuses::Status;
 
 // The number of a status.
@@ -240,16 +240,16 @@ fn flat_numbers(kind: u8, source: u8, body: Body) -> FlatRecord
 }
 
 // The numbers of a record or a refusal.
-pub fn flat_of(decoded: Decoded) -> FlatRecord
+pub fn flat_of(decoded: Result<Record, Refusal>) -> FlatRecord
     ensures { result ≡ flat_of decoded }
 {
     match decoded {
-        Decoded::Accepted(record) => {
+        Ok(record) => {
             let source = record.source;
             let body = record.body;
             let kind = record_kinds::place_of(record_kinds::kind_of(body));
             flat_numbers(kind, source, body)
         }
-        Decoded::Refused(refusal) => blank(refusals::number(refusal)),
+        Err(refusal) => blank(refusals::number(refusal)),
     }
 }

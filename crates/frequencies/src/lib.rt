@@ -5,7 +5,7 @@ ghost use Rattle.std.specs.Prelude.{◌≡◌};
 ghost use Rattle.frequencies.specs.Frequencies.{offset, tens_of, tens_listed, tens_code, frequency_in, expressible};
 
 // The bands of the frequency words.
-#[derive(Clone, Copy)]
+#[derive(Clone, Copy, PartialEq, Eq, Debug)]
 pub enum Band {
     Vor,
     Ils,

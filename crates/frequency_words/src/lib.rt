@@ -7,9 +7,8 @@ ghost use Rattle.statuses.specs.Statuses.{decimal_status};
 ghost use Rattle.decode.specs.Rules.{decimal};
 ghost use Rattle.decode.specs.Decode.{judgement, decode_clear};
 
-use decode::{Decoded, Judgement};
 use frequencies::Band;
-use records::{Body, Kind};
+use records::{Body, Kind, Record};
 use refusals::Refusal;
 use statuses::Status;
 
@@ -21,17 +20,17 @@ fn decimal_status_in(word: u32) -> Status
 }
 
 // Whether a frequency word keeps its rules, or the first that it breaks.
-pub fn frequency_judgement(band: Band, word: u32) -> Judgement
+pub fn frequency_judgement(band: Band, word: u32) -> Result<(), Refusal>
     ensures { result ≡ judgement (decimal band word) }
 {
     let digits = (word / 16384 % 16 <= 9)
         & ((word / 262144 % 16 <= 9) & (word / 4194304 % 16 <= 9));
     if !digits {
-        return Judgement::Broken(Refusal::Digit);
+        return Err(Refusal::Digit);
     }
     let codes = (word / 536870912 % 4 < 3) & frequencies::is_tens(band, word / 67108864 % 8);
     if !codes {
-        return Judgement::Broken(Refusal::Code);
+        return Err(Refusal::Code);
     }
     judgements::kept_if(
         channels::is_legal_frequency(
@@ -44,7 +43,7 @@ pub fn frequency_judgement(band: Band, word: u32) -> Judgement
 }
 
 // A frequency word of each band.
-pub fn vor_frequency(word: u32) -> Decoded
+pub fn vor_frequency(word: u32) -> Result<Record, Refusal>
     ensures { result ≡ decode_clear Kind.VorFrequency word }
 {
     judgements::judged(
@@ -57,7 +56,7 @@ pub fn vor_frequency(word: u32) -> Decoded
     )
 }
 
-pub fn ils_frequency(word: u32) -> Decoded
+pub fn ils_frequency(word: u32) -> Result<Record, Refusal>
     ensures { result ≡ decode_clear Kind.IlsFrequency word }
 {
     judgements::judged(
@@ -71,7 +70,7 @@ pub fn ils_frequency(word: u32) -> Decoded
     )
 }
 
-pub fn mls_frequency(word: u32) -> Decoded
+pub fn mls_frequency(word: u32) -> Result<Record, Refusal>
     ensures { result ≡ decode_clear Kind.MlsFrequency word }
 {
     judgements::judged(

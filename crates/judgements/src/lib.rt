@@ -5,19 +5,14 @@ ghost use Rattle.std.specs.Prelude.{◌≡◌, cond};
 ghost use Rattle.bits.specs.Fields.{bits};
 ghost use Rattle.decode.specs.Decode.{judged};
 
-use decode::{Decoded, Judgement};
 use records::{Body, Record};
 use refusals::Refusal;
 
 // Kept where the test holds, or broken with this refusal.
-pub fn kept_if(test: bool, otherwise: Refusal) -> Judgement
-    ensures { result ≡ cond test Judgement.Kept (Judgement.Broken otherwise) }
+pub fn kept_if(test: bool, otherwise: Refusal) -> Result<(), Refusal>
+    ensures { result ≡ cond test (Ok tt) (Err otherwise) }
 {
-    if test {
-        Judgement::Kept
-    } else {
-        Judgement::Broken(otherwise)
-    }
+    if test { Ok(()) } else { Err(otherwise) }
 }
 
 // The source, in bits 9 and 10.
@@ -28,14 +23,12 @@ fn source_in(word: u32) -> u8
 }
 
 // The record of this body and the word's source, or the refusal for the rule that the word breaks.
-pub fn judged(judgement: Judgement, word: u32, body: Body) -> Decoded
+pub fn judged(judgement: Result<(), Refusal>, word: u32, body: Body) -> Result<Record, Refusal>
     ensures { result ≡ judged judgement (record { source = bits 9 10 word; body = body }) }
 {
-    match judgement {
-        Judgement::Kept => Decoded::Accepted(Record {
-            source: source_in(word),
-            body: body,
-        }),
-        Judgement::Broken(refusal) => Decoded::Refused(refusal),
-    }
+    judgement?;
+    Ok(Record {
+        source: source_in(word),
+        body,
+    })
 }

@@ -1,5 +1,6 @@
 -- What the table's functions cite: a row does not depend on what stands past the end, and a label of the table finds its own kind.
 -- Assumes nothing.
+use Rattle.std.specs.Prelude.{Some}
 use mathlib.Core.Path.{◌≡◌, refl, sym, ap, ◌∙◌}
 use mathlib.Core.List.{List, [], ◌∷◌}
 use Prim.Native.Nat.{ℕ, zero, suc, ◌<◌, ◌≤◌}
@@ -7,7 +8,6 @@ use native.Mathlib.Nat.{le_of_suc-le-suc, not-suc-le-zero}
 use lib.ListN.{get_or, length, get_or-map, get_or-eq_default}
 use Rattle.records.specs.declared.Kind.{Kind}
 use Rattle.labels.specs.declared.Row.{Row}
-use Rattle.labels.specs.declared.Lookup.TheVariants.{Known}
 use Rattle.records.specs.declared.Kind.TheVariants.{VorAzimuth}
 use Rattle.records.specs.All.{kinds}
 use Rattle.labels.specs.Table.{rows, row_of, kind_at, label_number, find_kind}
@@ -18,7 +18,7 @@ get_or_within [] i d e h = absurd (not-suc-le-zero h)
 get_or_within (a ∷ l) zero d e h = refl
 get_or_within (a ∷ l) (suc i) d e h = get_or_within l i d e (le_of_suc-le-suc h)
 
-pub hit : {k : Kind} {l : ℕ} → l ≡ label_number k → Known k ≡ find_kind rows l
+pub hit : {k : Kind} {l : ℕ} → l ≡ label_number k → Some k ≡ find_kind rows l
 hit {k} e = sym (ap (find_kind rows) e ∙ found k)
 
 -- the row at a place of the table, and the first one past its end

@@ -4,7 +4,7 @@
 ghost use Rattle.std.specs.Prelude.{◌≡◌};
 ghost use Rattle.labels.specs.Table.{rows, row_of, kind_at, find_kind};
 
-use labels::{Lookup, Row};
+use labels::Row;
 use records::Kind;
 
 const ROWS: [Row; 15] = [
@@ -120,25 +120,25 @@ pub fn row_of(kind: Kind) -> Row
 }
 
 // The kind that a label stands for.
-pub fn find_kind(label: u32) -> Lookup
+pub fn find_kind(label: u32) -> Option<Kind>
     ensures { result ≡ find_kind rows label }
 {
     match label {
-        0o222 => Lookup::Known(Kind::VorAzimuth),
-        0o034 => Lookup::Known(Kind::VorFrequency),
-        0o173 => Lookup::Known(Kind::IlsCourse),
-        0o174 => Lookup::Known(Kind::IlsGlide),
-        0o033 => Lookup::Known(Kind::IlsFrequency),
-        0o036 => Lookup::Known(Kind::MlsFrequency),
-        0o151 => Lookup::Known(Kind::MlsAzimuthDeviation),
-        0o152 => Lookup::Known(Kind::MlsGlideDeviation),
-        0o153 => Lookup::Known(Kind::SelectedAzimuth),
-        0o154 => Lookup::Known(Kind::GreatestGlideAngle),
-        0o155 => Lookup::Known(Kind::SelectedGlideAngle),
-        0o140 => Lookup::Known(Kind::Part1),
-        0o141 => Lookup::Known(Kind::Part2),
-        0o142 => Lookup::Known(Kind::Part3),
-        0o143 => Lookup::Known(Kind::Part4),
-        _ => Lookup::Unknown,
+        0o222 => Some(Kind::VorAzimuth),
+        0o034 => Some(Kind::VorFrequency),
+        0o173 => Some(Kind::IlsCourse),
+        0o174 => Some(Kind::IlsGlide),
+        0o033 => Some(Kind::IlsFrequency),
+        0o036 => Some(Kind::MlsFrequency),
+        0o151 => Some(Kind::MlsAzimuthDeviation),
+        0o152 => Some(Kind::MlsGlideDeviation),
+        0o153 => Some(Kind::SelectedAzimuth),
+        0o154 => Some(Kind::GreatestGlideAngle),
+        0o155 => Some(Kind::SelectedGlideAngle),
+        0o140 => Some(Kind::Part1),
+        0o141 => Some(Kind::Part2),
+        0o142 => Some(Kind::Part3),
+        0o143 => Some(Kind::Part4),
+        _ => None,
     }
 }

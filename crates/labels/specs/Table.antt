@@ -1,6 +1,6 @@
 -- Document 01's table of labels: each kind's label, in octal, and its zero bits.
 -- Assumes nothing.
-use Rattle.std.specs.Prelude.{◌≡◌, refl, Bool, true, false, cond, List, [], ◌∷◌, map, ℕ, eqb, get_or}
+use Rattle.std.specs.Prelude.{◌≡◌, refl, Bool, true, false, cond, List, [], ◌∷◌, map, ℕ, eqb, get_or, Option, Some, None}
 use Rattle.std.proofs.Common.{sym, ap, ◌∙◌, arith, eqb-true}
 use Rattle.bits.specs.Layout.{mask}
 use Rattle.records.specs.All.{kinds}
@@ -9,8 +9,6 @@ use Rattle.records.specs.declared.Kind.{Kind}
 use Rattle.records.specs.declared.Kind.TheVariants.{VorAzimuth, VorFrequency, IlsCourse, IlsGlide, IlsFrequency, MlsFrequency, MlsAzimuthDeviation, MlsGlideDeviation, SelectedAzimuth, GreatestGlideAngle, SelectedGlideAngle, Part1, Part2, Part3, Part4}
 use Rattle.labels.specs.Label.{label_of}
 use Rattle.labels.specs.declared.Row.{Row}
-use Rattle.labels.specs.declared.Lookup.{Lookup}
-use Rattle.labels.specs.declared.Lookup.TheVariants.{Known, Unknown}
 
 abbrev pub label_number : Kind → ℕ
 label_number VorAzimuth = 0o222
@@ -45,17 +43,17 @@ abbrev pub rows : List Row
 rows = map row_of kinds
 
 -- the kind of the first row that has the label
-abbrev pub find_kind : List Row → ℕ → Lookup
-find_kind [] l = Unknown
-find_kind (r ∷ rs) l = cond (eqb l r.label) (Known r.kind) (find_kind rs l)
+abbrev pub find_kind : List Row → ℕ → Option Kind
+find_kind [] l = None
+find_kind (r ∷ rs) l = cond (eqb l r.label) (Some r.kind) (find_kind rs l)
 
 -- only its own label finds a kind
-pub only : (ks : List Kind) (l : ℕ) (k : Kind) → find_kind (map row_of ks) l ≡ Known k → label_number k ≡ l
+pub only : (ks : List Kind) (l : ℕ) (k : Kind) → find_kind (map row_of ks) l ≡ Some k → label_number k ≡ l
 unfolding row_of
 only [] l k e = let z : ◌≡◌ {A = ℕ} 0 1 = cc in omega arith
 only (j ∷ ks) l k e = by (eqb l (label_number j)) refl e (only ks l k)
   where
-    by : (b : Bool) → eqb l (label_number j) ≡ b → cond b (Known j) (find_kind (map row_of ks) l) ≡ Known k
-        → (find_kind (map row_of ks) l ≡ Known k → label_number k ≡ l) → label_number k ≡ l
+    by : (b : Bool) → eqb l (label_number j) ≡ b → cond b (Some j) (find_kind (map row_of ks) l) ≡ Some k
+        → (find_kind (map row_of ks) l ≡ Some k → label_number k ≡ l) → label_number k ≡ l
     by true t q rest = let i : j ≡ k = cc in ap label_number (sym i) ∙ sym (eqb-true l (label_number j) t)
     by false t q rest = rest q

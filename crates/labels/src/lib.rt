@@ -4,16 +4,9 @@
 use records::Kind;
 
 // A row of the table. A one in `zeros` is a bit that is zero in every word of the kind.
-#[derive(Clone, Copy)]
+#[derive(Clone, Copy, PartialEq, Eq, Debug)]
 pub struct Row {
     pub label: u32,
     pub kind: Kind,
     pub zeros: u32,
-}
-
-// What a label stands for.
-#[derive(Clone, Copy)]
-pub enum Lookup {
-    Known(Kind),
-    Unknown,
 }

@@ -1,32 +1,30 @@
--- The search for the last line feed, from the end: none stands behind the place at hand.
+-- The last line feed by its place: it is one, and none stands behind it.
 -- Assumes nothing.
-use mathlib.Core.Path.{◌≡◌, sym, ap, ◌∙◌}
-use mathlib.Core.Bool.{false}
-use mathlib.Core.List.{List}
-use Prim.Native.Nat.{ℕ, suc, ◌-◌, ◌≤◌, ◌<◌}
+use mathlib.Core.Path.{◌≡◌, refl, sym, ap, ◌∙◌}
+use mathlib.Core.Bool.{Bool, false, true, cond}
+use mathlib.Core.Logic.{◌≢◌}
+use mathlib.Core.List.{List, [], ◌∷◌}
+use Prim.Native.Nat.{ℕ, suc, ◌+◌, ◌≤◌, ◌<◌}
+use native.Mathlib.Numerals.{add-one}
 use native.Mathlib.Omega.{arith}
-use lib.ListN.{length, drop, get_or}
-use lib.Seq.{drop-length}
+use borrow.Author.Tests.{ne_eqb}
+use lib.ListN.{length, drop, get_or, length-drop}
+use lib.Seq.{get_or-drop}
 use Rattle.typed_texts.specs.TextLaws.{has}
 use Rattle.text_lines.specs.Lines.{whole_lines}
-use Rattle.text_lines.specs.LineLaws.{none_from}
 use Rattle.text_lines.proofs.LineLaws.{whole_length, none-whole-length}
 
-abbrev pub NoneFrom : List ℕ → ℕ → Type 0
-NoneFrom t i = (i ≤ length t) × (has 10 (drop i t) ≡ false)
+none_has : (t : List ℕ) → ((k : ℕ) → k < length t → get_or t k 0 ≢ 10) → has 10 t ≡ false
+none_has [] none = refl
+none_has (c ∷ t) none =
+    let later : has 10 t ≡ false = none_has t (λ k h. none (suc k) (omega arith)) in
+    ap (λ (b : Bool). cond b true (has 10 t)) (ne_eqb c 10 (none 0 (omega arith))) ∙ later
 
-pub none-at_end : (t : List ℕ) → NoneFrom t (length t)
-none-at_end t = (omega arith, ap (has 10) (drop-length t))
+pub last_feed : (t : List ℕ) (i : ℕ) → i < length t → get_or t i 0 ≡ 10 → ((k : ℕ) → i + 1 ≤ k → k < length t → get_or t k 0 ≢ 10) → i + 1 ≡ length (whole_lines t)
+last_feed t i h e none =
+    let behind : has 10 (drop (suc i) t) ≡ false =
+    none_has (drop (suc i) t) (λ k h' e'. none (suc i + k) (omega arith) (omega (arith, length-drop (suc i) t)) (sym (get_or-drop (suc i) t k 0) ∙ e')) in
+    add-one i ∙ sym (whole_length t i h e behind)
 
-module _ (t : List ℕ) (i : ℕ) (none : NoneFrom t i) where
-  behind : 0 < i → has 10 (drop (suc (i - 1)) t) ≡ false
-  behind h = let place : suc (i - 1) ≡ i = omega arith in ap (λ (k : ℕ). has 10 (drop k t)) place ∙ none.1
-
-  pub found : 0 < i → get_or t (i - 1) 0 ≡ 10 → i ≡ length (whole_lines t)
-  found h e = let place : length (whole_lines t) ≡ suc (i - 1) = whole_length t (i - 1) (omega (arith, none.0)) e (behind h) in omega arith
-
-  pub further : 0 < i → (get_or t (i - 1) 0 ≡ 10 → ⊥) → NoneFrom t (i - 1)
-  further h e = (omega (arith, none.0), none_from t (i - 1) (omega (arith, none.0)) e (behind h))
-
-  pub not_found : i ≤ 0 → 0 ≡ length (whole_lines t)
-  not_found h = let place : 0 ≡ i = omega arith in sym (none-whole-length t (ap (λ (k : ℕ). has 10 (drop k t)) place ∙ none.1))
+pub no_feed : (t : List ℕ) → ((k : ℕ) → k < length t → get_or t k 0 ≢ 10) → 0 ≡ length (whole_lines t)
+no_feed t none = sym (none-whole-length t (none_has t none))

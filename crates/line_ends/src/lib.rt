@@ -8,13 +8,8 @@ ghost use Rattle.text_lines.specs.Lines.{whole_lines};
 pub fn whole_lines(text: &[u8]) -> usize
     ensures { result ≡ length (whole_lines text.now) }
 {
-    let mut end = text.len();
-    while 0 < end {
-        let before = end - 1;
-        if text[before] == 10 {
-            return end;
-        }
-        end = before;
+    match text.iter().rposition(|&b| b == b'\n') {
+        Some(last) => last + 1,
+        None => 0,
     }
-    0
 }

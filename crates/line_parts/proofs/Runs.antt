@@ -3,37 +3,21 @@
 use mathlib.Core.Path.{◌≡◌, refl, ap, ◌∙◌}
 use mathlib.Core.Bool.{Bool, true, false, cond}
 use mathlib.Core.List.{List, [], ◌∷◌}
-use Prim.Native.Nat.{ℕ, suc, ◌+◌, ◌-◌, ◌≤◌, ◌<◌}
-use native.Mathlib.Numerals.{add-one}
+use Prim.Native.Nat.{ℕ, suc, ◌+◌, ◌-◌, ◌≤◌}
 use native.Mathlib.Omega.{arith}
-use lib.ListN.{length, take, drop, get_or, length-drop, drop_of_length-le}
-use lib.Seq.{drop-cons, take_all}
+use lib.ListN.{length, take, drop, length-drop}
+use lib.Seq.{take_all}
+use Rattle.std.specs.List.{prefix_len}
 use Rattle.typed_lines.specs.Lines.{in_run, run_of, behind_run}
 
--- the run goes i bytes on, or further
-abbrev pub Passed : Bool → List ℕ → ℕ → Type 0
-Passed blanks t i = (i ≤ length t) × (i + length (run_of blanks (drop i t)) ≡ length (run_of blanks t))
-
-module _ (blanks : Bool) (t : List ℕ) (i : ℕ) (passed : Passed blanks t i) where
-  pub run_ends : i < length t → in_run blanks (get_or t i 0) ≡ false → i ≡ length (run_of blanks t)
-  run_ends h e =
-      let none : length (run_of blanks (drop i t)) ≡ 0 =
-      ap (λ (r : List ℕ). length (run_of blanks r)) (drop-cons t i 0 h)
-      ∙ ap (λ (b : Bool). length (cond b (get_or t i 0 ∷ run_of blanks (drop (suc i) t)) [])) e in
-      omega (arith, passed.1)
-
-  pub run_goes_on : i < length t → in_run blanks (get_or t i 0) ≡ true → Passed blanks t (i + 1)
-  run_goes_on h e =
-      let one : length (run_of blanks (drop i t)) ≡ suc (length (run_of blanks (drop (suc i) t))) =
-      ap (λ (r : List ℕ). length (run_of blanks r)) (drop-cons t i 0 h)
-      ∙ ap (λ (b : Bool). length (cond b (get_or t i 0 ∷ run_of blanks (drop (suc i) t)) [])) e in
-      let next : length (run_of blanks (drop (i + 1) t)) ≡ length (run_of blanks (drop (suc i) t)) = ap (λ (n : ℕ). length (run_of blanks (drop n t))) (add-one i) in
-      (omega arith, omega (arith, passed.1))
-
-  pub run_is_all : length t ≤ i → i ≡ length (run_of blanks t)
-  run_is_all h =
-      let none : length (run_of blanks (drop i t)) ≡ 0 = ap (λ (r : List ℕ). length (run_of blanks r)) (drop_of_length-le t h) in
-      omega (arith, passed.1)
+-- the length of a run, counted byte by byte
+pub run_is_prefix : (blanks : Bool) (t : List ℕ) → length (run_of blanks t) ≡ prefix_len (in_run blanks) t
+run_is_prefix blanks [] = refl
+run_is_prefix blanks (c ∷ t) = by (in_run blanks c) (run_is_prefix blanks t)
+  where
+    by : (b : Bool) → length (run_of blanks t) ≡ prefix_len (in_run blanks) t → length (cond b (c ∷ run_of blanks t) []) ≡ cond b (1 + prefix_len (in_run blanks) t) 0
+    by true e = omega arith
+    by false e = refl
 
 -- ---- the parts that the code takes
 

@@ -19,14 +19,7 @@ fn in_run(byte: u8, blanks: bool) -> bool
 fn run_length(text: &[u8], blanks: bool) -> usize
     ensures { result ≡ length (run_of blanks text.now) }
 {
-    let mut i = 0;
-    while i < text.len() {
-        if !in_run(text[i], blanks) {
-            return i;
-        }
-        i += 1;
-    }
-    i
+    text.iter().take_while(|&&b| in_run(b, blanks)).count()
 }
 
 // A text without the blanks at its start.
@@ -57,12 +50,8 @@ pub fn behind_part(text: &[u8]) -> &[u8]
 pub fn without_return(line: &[u8]) -> &[u8]
     ensures { result.now ≡ without_return line.now }
 {
-    if line.len() == 0 {
-        return line;
+    match line.split_last() {
+        Some((&last, rest)) if last == b'\r' => rest,
+        _ => line,
     }
-    let last = line.len() - 1;
-    if line[last] == 13 {
-        return &line[..last];
-    }
-    line
 }

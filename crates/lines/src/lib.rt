@@ -6,7 +6,7 @@ ghost use Rattle.verdicts.specs.Verdicts.{verdict_of};
 ghost use Rattle.lines.specs.Lines.{verdict_line, total_line, refusal_line};
 
 use refusals::Refusal;
-use verdicts::{Previous, Verdict};
+use verdicts::Verdict;
 
 // The line of a verdict.
 fn put_verdict_line(out: &mut [u8], at: usize, verdict: Verdict) -> usize
@@ -23,7 +23,7 @@ fn put_verdict_line(out: &mut [u8], at: usize, verdict: Verdict) -> usize
 pub fn put_figure_line(
     out: &mut [u8],
     at: usize,
-    previous: Previous,
+    previous: Option<u32>,
     label: u8,
     millionths: i64,
 ) -> usize

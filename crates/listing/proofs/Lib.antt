@@ -1,3 +1,2 @@
-pub mod BufferLemmas
 pub mod LoopLemmas
 pub mod Size

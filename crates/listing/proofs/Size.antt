@@ -1,12 +1,11 @@
 -- How long a listing is at most: a word field has 7 bytes and a line of 25 at most, so the text of a whole sheet stays below 2^17 bytes.
 -- Assumes nothing.
-use Rattle.std.specs.Prelude.{◌≡◌, refl, List, ◌++◌, ℕ, ◌+◌, ◌-◌, ◌≤◌, length}
+use Rattle.std.specs.Prelude.{◌≡◌, refl, List, ◌++◌, ℕ, ◌+◌, ◌-◌, ◌≤◌, length, None}
 use Rattle.std.proofs.Common.{arith, length-append}
 use Rattle.fields.specs.Run.{Scan, Fields, Refused, sheet_of}
 use Rattle.lines.specs.Lines.{total_line}
 use Rattle.lines.specs.Lengths.{total_line_length, refusal_line_length}
 use Rattle.totals.specs.Totals.{words_in, refused_words_in, refused_few}
-use Rattle.listing.specs.declared.Before.{Before}
 use Rattle.listing.specs.Listing.{lines_of, listing_of, text_of}
 use Rattle.listing.specs.Size.{owned, fields_owned, refusal_short, lines_short, words_few, longest}
 
@@ -21,6 +20,6 @@ text_short s = by (sheet_of s) refl
         let words : words_in fs ≤ owned fs = words_few fs in
         let refused : refused_words_in fs ≤ words_in fs = refused_few fs in
         let last : length (total_line (words_in fs) (refused_words_in fs)) ≤ 56 = total_line_length (words_in fs) (refused_words_in fs) (omega arith) (omega arith) in
-        let sum : length (lines_of Before.Nothing fs ++ total_line (words_in fs) (refused_words_in fs)) ≡ length (lines_of Before.Nothing fs) + length (total_line (words_in fs) (refused_words_in fs)) =
-        length-append (lines_of Before.Nothing fs) (total_line (words_in fs) (refused_words_in fs)) in
-        omega (arith, lines_short Before.Nothing fs)
+        let sum : length (lines_of None fs ++ total_line (words_in fs) (refused_words_in fs)) ≡ length (lines_of None fs) + length (total_line (words_in fs) (refused_words_in fs)) =
+        length-append (lines_of None fs) (total_line (words_in fs) (refused_words_in fs)) in
+        omega (arith, lines_short None fs)

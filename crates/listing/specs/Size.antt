@@ -1,24 +1,19 @@
 -- How long a listing is at most: a word field has 7 bytes and a line of 25 at most, so the text of a whole sheet stays below 2^17 bytes.
 -- Assumes nothing.
-use Rattle.std.specs.Prelude.{◌≡◌, refl, Bool, true, false, cond, List, [], ◌∷◌, ◌++◌, ℕ, zero, suc, ◌+◌, ◌*◌, ◌-◌, ◌^◌, ◌≤◌, ◌<◌, eqb, ltb, ℤ, length, take, drop}
+use Rattle.std.specs.Prelude.{◌≡◌, refl, Bool, true, false, cond, List, [], ◌∷◌, ◌++◌, ℕ, zero, suc, ◌+◌, ◌*◌, ◌-◌, ◌^◌, ◌≤◌, ◌<◌, eqb, ltb, ℤ, length, take, drop, Option, Ok, Err, Some, None, Result}
 use Rattle.std.proofs.Common.{sym, ap, ◌∙◌, ⊎_elim, zero-le, arith, eqb-true, ltb-true, ltb-false, length-append, length-drop, length-take-le}
 use Rattle.refusals.specs.declared.Refusal.{Refusal}
 use Rattle.fields.specs.declared.FieldKind.{FieldKind}
-use Rattle.fields.specs.declared.Start.{Start}
 use Rattle.fields.specs.Start.{is_leaf, start_of}
 use Rattle.fields.specs.Run.{Field, Scan, Fields, Refused, ◌and_then◌, inside, step, scan, run_of, sheet_of}
 use Rattle.fields.proofs.Laws.{whole-field}
 use Rattle.fields.proofs.Limits.{not_longer, longer, sheet_refusal}
-use Rattle.contents.specs.declared.WordIn.{WordIn}
-use Rattle.contents.specs.declared.FigureIn.{FigureIn}
 use Rattle.contents.specs.BigEndian.{value_of}
 use Rattle.contents.specs.Contents.{word_in, figure_in}
-use Rattle.verdicts.specs.declared.Previous.{Previous}
 use Rattle.verdicts.specs.Verdicts.{verdict_of}
 use Rattle.word_lines.specs.Lengths.{word_line_length}
 use Rattle.lines.specs.Lengths.{verdict_line_length}
 use Rattle.totals.specs.Totals.{is_word, words_in}
-use Rattle.listing.specs.declared.Before.{Before}
 use Rattle.listing.specs.Listing.{previous, after, line_of_word, line_of_figure, line_of, lines_of}
 
 -- ---- the bytes of a sheet that are a field's own: all of it, or a group's header
@@ -51,11 +46,11 @@ field-owned run FieldKind.Note d p c h = omega arith
 field-owned run FieldKind.Group d p c h = omega arith
 
 -- one step, where shorter runs own no more than their bytes
-step-owned : (run : ℕ → ℕ → List ℕ → Scan) → ((d p : ℕ) (bs : List ℕ) → owned_in (run d p bs) ≤ length bs) → (d p : ℕ) (bs : List ℕ) (s : Start) → start_of d bs ≡ s
+step-owned : (run : ℕ → ℕ → List ℕ → Scan) → ((d p : ℕ) (bs : List ℕ) → owned_in (run d p bs) ≤ length bs) → (d p : ℕ) (bs : List ℕ) (s : Result (Option (FieldKind × ℕ)) Refusal) → start_of d bs ≡ s
     → owned_in (step run d p bs s) ≤ length bs
-step-owned run h d p bs Start.End e = zero-le
-step-owned run h d p bs (Start.Refused f) e = zero-le
-step-owned run h d p bs (Start.Field j n) e =
+step-owned run h d p bs (Ok None) e = zero-le
+step-owned run h d p bs (Err f) e = zero-le
+step-owned run h d p bs (Ok (Some (j, n))) e =
     let c : List ℕ = take n (drop 3 bs) in
     let rest : List ℕ = drop (3 + n) bs in
     let room : 3 + n ≤ length bs = (whole-field d bs j n e).room in
@@ -101,25 +96,25 @@ refusal_short s f p e = ⊎_elim (λ a. omega (arith, a.2)) (λ b. omega (arith,
 word_short : (c : List ℕ) → 7 * length (line_of_word (word_in c)) ≤ 25 * (3 + length c)
 word_short c = by (eqb (length c) 4) refl
   where
-    by : (b : Bool) → eqb (length c) 4 ≡ b → 7 * length (line_of_word (cond b (WordIn.Word (value_of c)) (WordIn.Refused Refusal.Length))) ≤ 25 * (3 + length c)
+    by : (b : Bool) → eqb (length c) 4 ≡ b → 7 * length (line_of_word (cond b (Ok (value_of c)) (Err Refusal.Length))) ≤ 25 * (3 + length c)
     by true e = let four : length c ≡ 4 = eqb-true (length c) 4 e in omega (arith, word_line_length (value_of c))
     by false e = zero-le
 
-figure_by : (p : Previous) (c : List ℕ) (l : ℕ) (m : ℤ) (b : Bool) → eqb (length c) 9 ≡ b
-    → 7 * length (line_of_figure p (cond b (FigureIn.Figure l m) (FigureIn.Refused Refusal.Length))) ≤ 25 * (3 + length c)
+figure_by : (p : Option ℕ) (c : List ℕ) (l : ℕ) (m : ℤ) (b : Bool) → eqb (length c) 9 ≡ b
+    → 7 * length (line_of_figure p (cond b (Ok (l, m)) (Err Refusal.Length))) ≤ 25 * (3 + length c)
 figure_by p c l m true e = let nine : length c ≡ 9 = eqb-true (length c) 9 e in omega (arith, verdict_line_length (verdict_of p l m))
 figure_by p c l m false e = zero-le
 
-figure_short : (p : Previous) (c : List ℕ) → 7 * length (line_of_figure p (figure_in c)) ≤ 25 * (3 + length c)
+figure_short : (p : Option ℕ) (c : List ℕ) → 7 * length (line_of_figure p (figure_in c)) ≤ 25 * (3 + length c)
 figure_short p c = figure_by p c _ _ (eqb (length c) 9) refl
 
-line_short : (b : Before) (k : FieldKind) (d : ℕ) (c : List ℕ) → 7 * length (line_of b k d c) ≤ 25 * own k c
+line_short : (b : Option (ℕ × ℕ)) (k : FieldKind) (d : ℕ) (c : List ℕ) → 7 * length (line_of b k d c) ≤ 25 * own k c
 line_short b FieldKind.Word d c = word_short c
 line_short b FieldKind.Figure d c = figure_short (previous b d) c
 line_short b FieldKind.Note d c = zero-le
 line_short b FieldKind.Group d c = zero-le
 
-pub lines_short : (b : Before) (fs : List Field) → 7 * length (lines_of b fs) ≤ 25 * owned fs
+pub lines_short : (b : Option (ℕ × ℕ)) (fs : List Field) → 7 * length (lines_of b fs) ≤ 25 * owned fs
 lines_short b [] = zero-le
 lines_short b (f ∷ fs) =
     let line : List ℕ = line_of b f.kind f.depth f.content in

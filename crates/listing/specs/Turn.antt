@@ -1,12 +1,11 @@
 -- A listing from field to field: what one field adds to the text and to the totals, and what the next one sees of it.
 -- Assumes nothing.
-use Rattle.std.specs.Prelude.{◌≡◌, List, ℕ, ◌+◌, ◌<◌}
+use Rattle.std.specs.Prelude.{◌≡◌, List, ℕ, ◌+◌, ◌<◌, None}
 use Rattle.fields.specs.declared.FieldKind.{FieldKind}
 use Rattle.walk.specs.declared.FieldAt.{FieldAt}
 use Rattle.walk.specs.Rest.{field_of}
 use Rattle.text.specs.Writing.{last, Writes}
 use Rattle.totals.specs.Totals.{is_word, is_refused_word}
-use Rattle.listing.specs.declared.Before.{Before}
 use Rattle.listing.specs.declared.Progress.{Progress}
 use Rattle.listing.specs.Listing.{after, line_of}
 
@@ -27,4 +26,4 @@ Countable p = (p.words < last) × (p.refused < last)
 
 -- a note or a group prints nothing
 abbrev pub passed_by : Progress → Progress
-passed_by p = record { at = p.at; before = Before.Nothing; words = p.words; refused = p.refused }
+passed_by p = record { at = p.at; before = None; words = p.words; refused = p.refused }

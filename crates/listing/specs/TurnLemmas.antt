@@ -1,35 +1,31 @@
 -- Each kind of field is listed as its function writes it: what the proofs of listing::put_field and the functions below it cite.
 -- Assumes nothing.
-use Rattle.std.specs.Prelude.{◌≡◌, refl, List, [], ℕ, ◌+◌, ◌-◌, ◌≤◌, ℤ, length, take, drop}
+use Rattle.std.specs.Prelude.{◌≡◌, refl, List, [], ℕ, ◌+◌, ◌-◌, ◌≤◌, ℤ, length, take, drop, Option, Some, None, Result, Ok, Err}
 use Rattle.std.proofs.Common.{sym, ap, ap₂, subst, ◌∙◌, arith}
 use Rattle.refusals.specs.declared.Refusal.{Refusal}
 use Rattle.fields.specs.declared.FieldKind.{FieldKind}
 use Rattle.labels.specs.Label.{label_of}
 use Rattle.decode.specs.Decode.{decode_of}
-use Rattle.decode.specs.declared.Decoded.{Decoded}
+use Rattle.records.specs.declared.Record.{Record}
 use Rattle.walk.specs.declared.FieldAt.{FieldAt}
 use Rattle.walk.specs.Rest.{field_of}
-use Rattle.contents.specs.declared.WordIn.{WordIn}
-use Rattle.contents.specs.declared.FigureIn.{FigureIn}
 use Rattle.contents.specs.Contents.{word_in, figure_in}
 use Rattle.text.specs.Writing.{last, Writes, named, empty}
-use Rattle.verdicts.specs.declared.Previous.{Previous}
 use Rattle.verdicts.specs.Verdicts.{verdict_of}
 use Rattle.word_lines.specs.WordLines.{decoded_line}
 use Rattle.lines.specs.Lines.{verdict_line}
 use Rattle.totals.specs.Totals.{refused_one, refused_word, is_word, is_refused_word}
-use Rattle.listing.specs.declared.Before.{Before}
 use Rattle.listing.specs.declared.Progress.{Progress}
 use Rattle.listing.specs.Listing.{previous, word_at, line_of_word, line_of_figure, after, line_of}
 use Rattle.listing.specs.Turn.{Lists, ListsField, passed_by}
 
 module _ (out : List ℕ) (p : Progress) (d : ℕ) (c : List ℕ) (out' : List ℕ) where
   -- a word field, by the word in it
-  pub word-listed : (r : WordIn) (w : ℕ) (x : Decoded) (l n at : ℕ) → r ≡ word_in c → r ≡ WordIn.Word w → x ≡ decode_of w → l ≡ label_of w → n ≡ refused_one x
+  pub word-listed : (r : Result ℕ Refusal) (w : ℕ) (x : Result Record Refusal) (l n at : ℕ) → r ≡ word_in c → r ≡ Ok w → x ≡ decode_of w → l ≡ label_of w → n ≡ refused_one x
       → Writes out p.at (decoded_line x l) out' at
-      → Lists out p FieldKind.Word d c out' (record { at = at; before = Before.Word d w; words = p.words + 1; refused = p.refused + n })
+      → Lists out p FieldKind.Word d c out' (record { at = at; before = Some (d, w); words = p.words + 1; refused = p.refused + n })
   word-listed r w x l n at found told decoded label one h =
-      let holds : WordIn.Word w ≡ word_in c = sym told ∙ found in
+      let holds : Ok w ≡ word_in c = sym told ∙ found in
       record {
         written = named h (ap₂ decoded_line decoded label ∙ ap line_of_word holds);
         before_is = ap (word_at d) holds;
@@ -38,9 +34,9 @@ module _ (out : List ℕ) (p : Progress) (d : ℕ) (c : List ℕ) (out' : List �
       }
 
   -- a figure field, by the figure in it
-  pub figure_listed : (r : FigureIn) (l : ℕ) (m z : ℤ) (b : Previous) (at : ℕ) → r ≡ figure_in c → r ≡ FigureIn.Figure l m → b ≡ previous p.before d → z ≡ m
+  pub figure_listed : (r : Result (ℕ × ℤ) Refusal) (l : ℕ) (m z : ℤ) (b : Option ℕ) (at : ℕ) → r ≡ figure_in c → r ≡ Ok (l, m) → b ≡ previous p.before d → z ≡ m
       → Writes out p.at (verdict_line (verdict_of b l z)) out' at
-      → Lists out p FieldKind.Figure d c out' (record { at = at; before = Before.Nothing; words = p.words; refused = p.refused })
+      → Lists out p FieldKind.Figure d c out' (record { at = at; before = None; words = p.words; refused = p.refused })
   figure_listed r l m z b at found told e same h =
       record {
         written = named h (ap (λ (x : ℤ). verdict_line (verdict_of b l x)) same ∙ ap₂ line_of_figure e (sym told ∙ found));
@@ -51,21 +47,21 @@ module _ (out : List ℕ) (p : Progress) (d : ℕ) (c : List ℕ) (out' : List �
 
 module _ (out : List ℕ) (p : Progress) (d : ℕ) (c : List ℕ) (short : length out ≤ last) (fits : p.at ≤ last) where
   -- a word field of another length, which no legal sheet has
-  pub no_word-listed : (r : WordIn) (f : Refusal) → r ≡ word_in c → r ≡ WordIn.Refused f
-      → Lists out p FieldKind.Word d c out (record { at = p.at; before = Before.Nothing; words = p.words + 1; refused = p.refused })
+  pub no_word-listed : (r : Result ℕ Refusal) (f : Refusal) → r ≡ word_in c → r ≡ Err f
+      → Lists out p FieldKind.Word d c out (record { at = p.at; before = None; words = p.words + 1; refused = p.refused })
   no_word-listed r f found told =
-      let holds : WordIn.Refused f ≡ word_in c = sym told ∙ found in
+      let holds : Err f ≡ word_in c = sym told ∙ found in
       let none : 0 ≡ refused_word (word_in c) = ap refused_word holds in
       record { written = named (empty short fits) (ap line_of_word holds); before_is = ap (word_at d) holds; words_is = refl; refused_is = omega arith }
 
   module _ (q : Progress) (passed : q ≡ passed_by p) where
     -- a field without a line
-    nothing : (k : FieldKind) → [] ≡ line_of p.before k d c → Before.Nothing ≡ after k d c → 0 ≡ is_word k → 0 ≡ is_refused_word k c → Lists out p k d c out q
+    nothing : (k : FieldKind) → [] ≡ line_of p.before k d c → None ≡ after k d c → 0 ≡ is_word k → 0 ≡ is_refused_word k c → Lists out p k d c out q
     nothing k line next word refused =
         subst (Lists out p k d c out) (sym passed)
         (record { written = named (empty short fits) line; before_is = next; words_is = omega (arith, word); refused_is = omega (arith, refused) })
 
-    pub no_figure_listed : (r : FigureIn) (f : Refusal) → r ≡ figure_in c → r ≡ FigureIn.Refused f → Lists out p FieldKind.Figure d c out q
+    pub no_figure_listed : (r : Result (ℕ × ℤ) Refusal) (f : Refusal) → r ≡ figure_in c → r ≡ Err f → Lists out p FieldKind.Figure d c out q
     no_figure_listed r f found told = nothing FieldKind.Figure (ap (line_of_figure (previous p.before d)) (sym told ∙ found)) refl refl refl
 
     pub note-listed : Lists out p FieldKind.Note d c out q

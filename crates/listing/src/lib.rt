@@ -1,48 +1,31 @@
 // The listing of a sheet, as text in a buffer.
 #![tactic(auto)]
 
-ghost use Rattle.std.specs.Prelude.{◌≡◌, ◌+◌, ◌≤◌, ltb, length};
+ghost use Rattle.std.specs.Prelude.{◌≡◌, ◌+◌, ◌≤◌, length};
 ghost use Rattle.text.specs.Writing.{Writes};
 ghost use Rattle.listing.specs.Listing.{previous, text_of, listed_of, buffer_of};
+ghost use Rattle.listing.specs.Puts.{Puts};
 ghost use Rattle.listing.specs.Turn.{Countable, Lists, ListsField, passed_by};
 
-use contents::{FigureIn, WordIn};
 use fields::FieldKind;
 use refusals::Refusal;
-use verdicts::Previous;
-use walk::{FieldAt, Given};
-
-// What stands just before a field, as far as a figure is tested against it.
-#[derive(Clone, Copy)]
-pub enum Before {
-    // No word.
-    Nothing,
-    // A word field at this depth, with this word.
-    Word(u8, u32),
-}
+use walk::FieldAt;
 
 // Where a listing stands: the place of the next line, what stands just before, and how many words there were and how many of them are refused.
-#[derive(Clone, Copy)]
+#[derive(Clone, Copy, PartialEq, Eq, Debug)]
 struct Progress {
     at: usize,
-    before: Before,
+    before: Option<(u8, u32)>,
     words: u64,
     refused: u64,
 }
 
 // What a figure at a depth is tested against.
-fn previous_of(before: Before, depth: u8) -> Previous
+fn previous_of(before: Option<(u8, u32)>, depth: u8) -> Option<u32>
     ensures { result ≡ previous before depth }
 {
-    match before {
-        Before::Nothing => Previous::Other,
-        Before::Word(other, word) => {
-            if other == depth {
-                return Previous::Word(word);
-            }
-            Previous::Other
-        }
-    }
+    let (other, word) = before?;
+    if other == depth { Some(word) } else { None }
 }
 
 // A word field. The word is decoded once, for its line and for the count.
@@ -52,7 +35,7 @@ fn put_word(out: &mut [u8], progress: Progress, depth: u8, content: &[u8]) -> Pr
 {
     let words = progress.words + 1;
     match content_values::word_in(content) {
-        WordIn::Word(word) => {
+        Ok(word) => {
             let decoded = decoder::decode(word);
             let refused = progress.refused + totals::refused_one(decoded);
             let at = word_lines::put_decoded_line(
@@ -63,14 +46,14 @@ fn put_word(out: &mut [u8], progress: Progress, depth: u8, content: &[u8]) -> Pr
             );
             Progress {
                 at,
-                before: Before::Word(depth, word),
+                before: Some((depth, word)),
                 words,
                 refused,
             }
         }
-        WordIn::Refused(_) => Progress {
+        Err(_) => Progress {
             at: progress.at,
-            before: Before::Nothing,
+            before: None,
             words,
             refused: progress.refused,
         },
@@ -84,13 +67,13 @@ fn put_figure(out: &mut [u8], progress: Progress, depth: u8, content: &[u8]) -> 
     let before = progress.before;
     let previous = previous_of(before, depth);
     match content_values::figure_in(content) {
-        FigureIn::Figure(label, millionths) => Progress {
+        Ok((label, millionths)) => Progress {
             at: lines::put_figure_line(out, progress.at, previous, label, millionths),
-            before: Before::Nothing,
+            before: None,
             words: progress.words,
             refused: progress.refused,
         },
-        FigureIn::Refused(_) => passed(progress),
+        Err(_) => passed(progress),
     }
 }
 
@@ -100,7 +83,7 @@ fn passed(progress: Progress) -> Progress
 {
     Progress {
         at: progress.at,
-        before: Before::Nothing,
+        before: None,
         words: progress.words,
         refused: progress.refused,
     }
@@ -130,65 +113,58 @@ fn put_listing(out: &mut [u8], sheet: &[u8]) -> usize
     let mut walk = walker::start(sheet);
     let mut progress = Progress {
         at: 0,
-        before: Before::Nothing,
+        before: None,
         words: 0,
         refused: 0,
     };
     loop {
         let step = walker::step(sheet, walk);
-        let given = step.given;
-        match given {
-            Given::Field(field) => {
+        match step.given {
+            Ok(given) => {
+                let Some(field) = given else {
+                    return lines::put_total_line(
+                        out,
+                        progress.at,
+                        progress.words,
+                        progress.refused,
+                    );
+                };
                 progress = put_field(out, sheet, progress, field);
                 walk = step.next;
             }
-            Given::Refused(refusal, place) => {
+            Err((refusal, place)) => {
                 return lines::put_refusal_line(out, progress.at, refusal, place);
-            }
-            Given::End => {
-                return lines::put_total_line(out, progress.at, progress.words, progress.refused);
             }
         }
     }
 }
 
+// Puts a text of at most `limit` bytes into a buffer with room for all of it. Where some such text is longer than the buffer, it is measured before: it is put, and one byte of it stored.
+pub fn put_whole<F: Fn(&mut [u8]) -> usize>(
+    limit: usize,
+    put: F,
+    out: &mut [u8],
+) -> Result<usize, Refusal>
+    requires { F.IsAlwaysCallable put }
+    ensures answer { (text : _) → Puts F.Fn put text → length text ≤ limit → result ≡ listed_of text out.old }
+    ensures content { (text : _) → Puts F.Fn put text → length text ≤ limit → out.new ≡ buffer_of text out.old }
+{
+    if out.len() < limit {
+        let mut first = [0u8; 1];
+        if out.len() < put(&mut first) {
+            return Err(Refusal::Room);
+        }
+    }
+    Ok(put(out))
+}
+
 // No sheet's listing has more bytes.
 const TEXT_LIMIT: usize = 117085;
 
-// The length of a sheet's listing: it is written, and one byte of it stored.
-fn text_length(sheet: &[u8]) -> usize
-    ensures { result ≡ length (text_of sheet.now) }
-{
-    let mut first = [0u8; 1];
-    put_listing(&mut first, sheet)
-}
-
-// Whether a sheet's listing has more bytes than this. It is measured only where some listings do.
-fn is_longer(sheet: &[u8], room: usize) -> bool
-    ensures { result ≡ ltb room (length (text_of sheet.now)) }
-{
-    if room < TEXT_LIMIT {
-        return room < text_length(sheet);
-    }
-    false
-}
-
-// What a listing into a buffer gives.
-#[derive(Clone, Copy)]
-pub enum Listed {
-    // The text stands in the buffer's first bytes, as many as this.
-    Length(usize),
-    // Number 13: the text is longer than the buffer, which is as it was.
-    Refused(Refusal),
-}
-
 // Writes the listing of a sheet into a buffer.
-pub fn list_sheet(sheet: &[u8], out: &mut [u8]) -> Listed
+pub fn list_sheet(sheet: &[u8], out: &mut [u8]) -> Result<usize, Refusal>
     ensures answer { result ≡ listed_of (text_of sheet.now) out.old }
     ensures content { out.new ≡ buffer_of (text_of sheet.now) out.old }
 {
-    if is_longer(sheet, out.len()) {
-        return Listed::Refused(Refusal::Room);
-    }
-    Listed::Length(put_listing(out, sheet))
+    put_whole(TEXT_LIMIT, |buffer| put_listing(buffer, sheet), out)
 }

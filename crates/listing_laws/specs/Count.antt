@@ -1,6 +1,6 @@
 -- A listing ends with its total, and has one line for each word field and each figure field, and one for the total.
 -- Assumes nothing.
-use Rattle.std.specs.Prelude.{◌≡◌, refl, Bool, true, false, cond, List, [], ◌∷◌, ◌++◌, ℕ, zero, suc, ◌+◌, ◌/◌, ◌^◌, ◌<◌, eqb, ℤ, length}
+use Rattle.std.specs.Prelude.{◌≡◌, refl, Bool, true, false, cond, List, [], ◌∷◌, ◌++◌, ℕ, zero, suc, ◌+◌, ◌/◌, ◌^◌, ◌<◌, eqb, ℤ, length, Option, Some, None, Result, Ok, Err}
 use Rattle.std.proofs.Common.{ap, arith, ne_eqb, lit<}
 use Rattle.std.proofs.lemmas.Bool.{false≢true}
 use Rattle.refusals.specs.Numbers.{number_of}
@@ -8,12 +8,9 @@ use Rattle.refusals.specs.declared.Refusal.{Refusal}
 use Rattle.statuses.specs.declared.Status.{Status}
 use Rattle.fields.specs.declared.FieldKind.{FieldKind}
 use Rattle.fields.specs.Run.{Field, Fields, sheet_of}
-use Rattle.contents.specs.declared.WordIn.{WordIn}
-use Rattle.contents.specs.declared.FigureIn.{FigureIn}
+use Rattle.records.specs.declared.Record.{Record}
 use Rattle.contents.specs.BigEndian.{value_of}
 use Rattle.decode.specs.Decode.{decode_of}
-use Rattle.decode.specs.declared.Decoded.{Decoded}
-use Rattle.verdicts.specs.declared.Previous.{Previous}
 use Rattle.verdicts.specs.declared.Verdict.{Verdict}
 use Rattle.verdicts.specs.Verdicts.{verdict_of}
 use Rattle.columns.specs.declared.Mark.{Mark}
@@ -26,7 +23,6 @@ use Rattle.numerals.specs.Theorems.{Digits, decimal-digits, padded-digits}
 use Rattle.word_lines.specs.WordLines as words
 use Rattle.lines.specs.Lines as lines
 use Rattle.totals.specs.Totals.{words_in, refused_words_in}
-use Rattle.listing.specs.declared.Before.{Before}
 use Rattle.listing.specs.Listing.{line_of_word, line_of_figure, lines_of, listing_of, text_of}
 
 -- ---- what is counted
@@ -84,9 +80,9 @@ sign-none : (b : Bool) → line_ends (sign b) ≡ 0
 sign-none true = refl
 sign-none false = refl
 
-figure_none : (f : Figure) → line_ends (words.figure_text f) ≡ 0
-figure_none (Figure.Number negative places size) = none_both (sign negative) (fixed places size) (sign-none negative) (fixed-none places size)
-figure_none Figure.Absent = refl
+figure_none : (f : Option Figure) → line_ends (words.figure_text f) ≡ 0
+figure_none (Some f) = none_both (sign f.negative) (fixed f.places f.size) (sign-none f.negative) (fixed-none f.places f.size)
+figure_none None = refl
 
 status_none : (s : Status) → line_ends (words.status_text s) ≡ 0
 status_none Status.Failure = refl
@@ -106,10 +102,10 @@ heading-none label source =
     (none_both (octal3 label ++ ascii " ") (decimal source) (none_both (octal3 label) (ascii " ") (padded-none 8 3 label (lit< tt)) refl) (decimal-none source))
     refl
 
-word-one : (d : Decoded) (label : ℕ) → line_ends (words.decoded_line d label) ≡ 1
-word-one (Decoded.Refused f) label =
+word-one : (d : Result Record Refusal) (label : ℕ) → line_ends (words.decoded_line d label) ≡ 1
+word-one (Err f) label =
     one_end (ascii "refused " ++ decimal (number_of f)) (none_both (ascii "refused ") (decimal (number_of f)) refl (decimal-none (number_of f)))
-word-one (Decoded.Accepted r) label =
+word-one (Ok r) label =
     let columns : Columns = columns_of r.body in
     let head : List ℕ = words.heading label r.source in
     one_end (words.marked label r.source columns.mark ++ words.figure_text columns.figure)
@@ -131,11 +127,11 @@ total-one words refused =
 
 -- ---- the lines of a list of fields
 
-pub word-field : (c : List ℕ) (b : Bool) → eqb (length c) 4 ≡ b → b ≡ true → line_ends (line_of_word (cond b (WordIn.Word (value_of c)) (WordIn.Refused Refusal.Length))) ≡ 1
+pub word-field : (c : List ℕ) (b : Bool) → eqb (length c) 4 ≡ b → b ≡ true → line_ends (line_of_word (cond b (Ok (value_of c)) (Err Refusal.Length))) ≡ 1
 word-field c true e h = word-one (decode_of (value_of c)) _
 word-field c false e h = absurd (false≢true h)
 
-pub figure_field : (p : Previous) (l : ℕ) (m : ℤ) (b : Bool) → b ≡ true → line_ends (line_of_figure p (cond b (FigureIn.Figure l m) (FigureIn.Refused Refusal.Length))) ≡ 1
+pub figure_field : (p : Option ℕ) (l : ℕ) (m : ℤ) (b : Bool) → b ≡ true → line_ends (line_of_figure p (cond b (Ok (l, m)) (Err Refusal.Length))) ≡ 1
 figure_field p l m true h = verdict_one (verdict_of p l m)
 figure_field p l m false h = absurd (false≢true h)
 
@@ -150,5 +146,5 @@ figures-append (f ∷ fs) gs = omega (arith, figures-append fs gs)
 -- ---- the whole listing
 
 -- The text of a legal sheet is the lines of its fields, and ends with the total.
-pub ends_with-total : (s : List ℕ) (fs : List Field) → sheet_of s ≡ Fields fs → text_of s ≡ lines_of Before.Nothing fs ++ lines.total_line (words_in fs) (refused_words_in fs)
+pub ends_with-total : (s : List ℕ) (fs : List Field) → sheet_of s ≡ Fields fs → text_of s ≡ lines_of None fs ++ lines.total_line (words_in fs) (refused_words_in fs)
 ends_with-total s fs e = ap listing_of e

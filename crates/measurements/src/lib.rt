@@ -8,34 +8,27 @@ use quantities::Quantity;
 use records::Body;
 use views::{Value, View};
 
-// The quantity and the count that a word holds, or none.
-#[derive(Clone, Copy)]
-pub enum Measurement {
-    Count(Quantity, i16),
-    Nothing,
-}
-
 // The quantity and the count of a value; a frequency and a setting have none.
-fn value_measurement(value: Value) -> Measurement
+fn value_measurement(value: Value) -> Option<(Quantity, i16)>
     ensures { result ≡ value_measurement value }
 {
     match value {
-        Value::Azimuth(count) => Measurement::Count(Quantity::Azimuth, count.0),
-        Value::Course(count) => Measurement::Count(Quantity::Course, count.0),
-        Value::Glide(count) => Measurement::Count(Quantity::Glide, count.0),
-        Value::MlsAzimuth(count) => Measurement::Count(Quantity::MlsAzimuth, count.0),
-        Value::MlsGlide(count) => Measurement::Count(Quantity::MlsGlide, count.0),
-        Value::Frequency(_) => Measurement::Nothing,
-        Value::Setting(_) => Measurement::Nothing,
+        Value::Azimuth(count) => Some((Quantity::Azimuth, count.0)),
+        Value::Course(count) => Some((Quantity::Course, count.0)),
+        Value::Glide(count) => Some((Quantity::Glide, count.0)),
+        Value::MlsAzimuth(count) => Some((Quantity::MlsAzimuth, count.0)),
+        Value::MlsGlide(count) => Some((Quantity::MlsGlide, count.0)),
+        Value::Frequency(_) => None,
+        Value::Setting(_) => None,
     }
 }
 
 // The quantity and the count that a body holds, under every status.
-pub fn measurement_of(body: Body) -> Measurement
+pub fn measurement_of(body: Body) -> Option<(Quantity, i16)>
     ensures { result ≡ measurement_of body }
 {
     match views::view_of(body) {
         View::Value(_, value) => value_measurement(value),
-        View::Part(_, _) => Measurement::Nothing,
+        View::Part(_, _) => None,
     }
 }

@@ -6,63 +6,42 @@ ghost use Rattle.fields.specs.Run.{sheet_of};
 ghost use Rattle.notes.specs.Note.{is_note, note_of, text_of, found_of, span_of, PartOf};
 
 use fields::FieldKind;
-use notes::{NoteFound, Span};
+use notes::Span;
 use refusals::Refusal;
-use walk::{FieldAt, Given};
-
-// Whether a field of this kind is a note.
-fn is_note(kind: FieldKind) -> bool
-    ensures { result ≡ is_note kind }
-{
-    match kind {
-        FieldKind::Word => false,
-        FieldKind::Figure => false,
-        FieldKind::Note => true,
-        FieldKind::Group => false,
-    }
-}
+use walk::FieldAt;
 
 // Whether a field is the note at a place.
 fn is_note_at(field: FieldAt, place: usize) -> bool
     ensures { result ≡ is_note field.kind && eqb field.place place }
 {
-    let kind = field.kind;
-    is_note(kind) & (field.place == place)
+    matches!(field.kind, FieldKind::Note) & (field.place == place)
 }
 
 // Where the text of the note at a place is, or why there is none.
-pub fn find_note(sheet: &[u8], place: usize) -> NoteFound
+pub fn find_note(sheet: &[u8], place: usize) -> Result<(usize, usize), (Refusal, usize)>
     ensures { result ≡ found_of place (note_of (sheet_of sheet.now) place) }
 {
     let mut at = walker::start(sheet);
     loop {
         let step = walker::step(sheet, at);
-        let given = step.given;
-        match given {
-            Given::End => {
-                return NoteFound::Refused(Refusal::Tag, place);
-            }
-            Given::Refused(refusal, offset) => {
-                return NoteFound::Refused(refusal, offset);
-            }
-            Given::Field(field) => {
-                if is_note_at(field, place) {
-                    let start = place + 3;
-                    return NoteFound::Found(start, start + field.length);
-                }
-                at = step.next;
-            }
+        let Some(field) = step.given? else {
+            return Err((Refusal::Tag, place));
+        };
+        if is_note_at(field, place) {
+            let start = place + 3;
+            return Ok((start, start + field.length));
         }
+        at = step.next;
     }
 }
 
 // The part of a sheet that a note's text is.
-fn span_of(found: NoteFound) -> Span
+fn span_of(found: Result<(usize, usize), (Refusal, usize)>) -> Span
     ensures { result ≡ span_of found }
 {
     match found {
-        NoteFound::Found(start, end) => Span { start, end },
-        NoteFound::Refused(_, _) => Span { start: 0, end: 0 },
+        Ok((start, end)) => Span { start, end },
+        Err((_, _)) => Span { start: 0, end: 0 },
     }
 }
 

@@ -1,11 +1,10 @@
 -- The note at a place of a sheet: the sheet's own refusal, else the text of the note that starts there, else 10 with that place.
 -- Assumes nothing.
-use Rattle.std.specs.Prelude.{◌≡◌, Bool, true, false, ◌&&◌, cond, List, [], ◌∷◌, ℕ, ◌+◌, eqb, length, take, drop}
+use Rattle.std.specs.Prelude.{◌≡◌, Bool, true, false, ◌&&◌, cond, List, [], ◌∷◌, ℕ, ◌+◌, eqb, length, take, drop, Result, Ok, Err}
 use Rattle.std.specs.Borrow.{Bor}
 use Rattle.refusals.specs.declared.Refusal.{Refusal}
 use Rattle.fields.specs.declared.FieldKind.{FieldKind}
 use Rattle.fields.specs.Run.{Field, Scan, Fields, Refused}
-use Rattle.notes.specs.declared.NoteFound.{NoteFound}
 use Rattle.notes.specs.declared.Span.{Span}
 
 -- a text, or a refusal with its offset
@@ -36,14 +35,14 @@ text_of (Text t) = t
 text_of (NoText f q) = []
 
 -- where the text of a note at a place lies: it starts 3 bytes after the place
-abbrev pub found_of : ℕ → NoteText → NoteFound
-found_of p (Text t) = NoteFound.Found (p + 3) (p + 3 + length t)
-found_of p (NoText f q) = NoteFound.Refused f q
+abbrev pub found_of : ℕ → NoteText → Result (ℕ × ℕ) (Refusal × ℕ)
+found_of p (Text t) = Ok (p + 3, p + 3 + length t)
+found_of p (NoText f q) = Err (f, q)
 
 -- the part of the sheet that is the text; the empty one at its start beside a refusal
-abbrev pub span_of : NoteFound → Span
-span_of (NoteFound.Found start end) = record { start = start; end = end }
-span_of (NoteFound.Refused f q) = record { start = 0; end = 0 }
+abbrev pub span_of : Result (ℕ × ℕ) (Refusal × ℕ) → Span
+span_of (Ok (start, end)) = record { start = start; end = end }
+span_of (Err (f, q)) = record { start = 0; end = 0 }
 
 -- a slice that is this part of the sheet slice: it points into the same memory, past the sheet's first byte by the start, and holds the bytes from the start to the end
 pub record PartOf (sheet : Bor (List ℕ)) (span : Span) (part : Bor (List ℕ)) : Type 0 where

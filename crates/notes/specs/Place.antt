@@ -1,6 +1,6 @@
 -- Which note a place names: the one that starts there, of which there is at most one, and its text is a part of the sheet.
 -- Assumes nothing.
-use Rattle.std.specs.Prelude.{◌≡◌, refl, Bool, ◌&&◌, cond, ℕ, ◌≤◌, ◌<◌, length, take, drop}
+use Rattle.std.specs.Prelude.{◌≡◌, refl, Bool, ◌&&◌, cond, ℕ, ◌≤◌, ◌<◌, length, take, drop, Result}
 use Rattle.std.proofs.Common.{sym, ap, ap₂, ◌∙◌, ⊎_elim, arith, eq-eqb, ne_eqb}
 use Rattle.std.proofs.Math.Bool.{and-false}
 use mathlib.Core.List.Memᴰ
@@ -8,7 +8,7 @@ use mathlib.Core.List.{List, [], ◌∷◌, Memᴰ}
 use Rattle.refusals.specs.declared.Refusal.{Refusal}
 use Rattle.fields.specs.declared.FieldKind.{FieldKind}
 use Rattle.fields.specs.Run.{Field, Scan, Fields, sheet_of}
-use Rattle.walk.specs.declared.Walk.{Walk}
+use Rattle.walk.specs.declared.Position.{Position}
 use Rattle.walk.specs.Step.{start_walk}
 use Rattle.walk.specs.Step.{step_of}
 use Rattle.walk.specs.Stands.{Stands}
@@ -18,7 +18,7 @@ use Rattle.notes.specs.Note.{NoteText, Text, NoText, is_note, note_in, note_of, 
 
 -- ---- which note
 
-note_ahead : (s : List ℕ) (w : Walk) (fs : List Field) (f : Field) → Stands s w (Fields fs) → Memᴰ f fs → f.kind ≡ FieldKind.Note
+note_ahead : (s : List ℕ) (w : Result Position (Refusal × ℕ)) (fs : List Field) (f : Field) → Stands s w (Fields fs) → Memᴰ f fs → f.kind ≡ FieldKind.Note
     → note_in fs f.place ≡ Text f.content
 note_ahead s w [] f h m k = absurd (Memᴰ.not-nil m)
 note_ahead s w (g ∷ fs) f h m k =

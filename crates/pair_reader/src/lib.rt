@@ -4,18 +4,16 @@
 ghost use Rattle.std.specs.Prelude.{◌≡◌};
 ghost use Rattle.typed_pairs.specs.Pairs.{pair_of, pair_in, line_of};
 
-use typed_figures::TypedFigure;
 use typed_pairs::TypedLine;
-use typed_words::TypedWord;
 
 // The pair of a word and a figure that are both read, with nothing behind them.
-fn pair_of(word: TypedWord, figure: TypedFigure, rest: &[u8]) -> TypedLine
+fn pair_of(word: Option<u32>, figure: Option<i64>, rest: &[u8]) -> TypedLine
     ensures { result ≡ pair_of word figure rest.now }
 {
-    let TypedWord::Word(bits) = word else {
+    let Some(bits) = word else {
         return TypedLine::Unread;
     };
-    let TypedFigure::Millionths(millionths) = figure else {
+    let Some(millionths) = figure else {
         return TypedLine::Unread;
     };
     if rest.len() == 0 {

@@ -1,6 +1,6 @@
 -- The azimuth: a value moved by whole turns is the value of a count moved by whole turns of counts, so the nearest of all whole
 -- numbers, less whole turns, is the nearest count round the circle.
-use Rattle.std.specs.Prelude.{◌≡◌, ◌≢◌, ◌⊎◌, Bool, true, false, ℕ, ◌+◌, ◌-◌, ◌*◌, ◌/◌, ◌%◌, ◌≤◌, ◌<◌, ℤ, pos, nat_abs, ◌+ℤ◌}
+use Rattle.std.specs.Prelude.{◌≡◌, ◌≢◌, ◌⊎◌, Bool, true, false, ℕ, ◌+◌, ◌-◌, ◌*◌, ◌/◌, ◌%◌, ◌≤◌, ◌<◌, ℤ, pos, nat_abs, ◌+ℤ◌, Some}
 use Rattle.std.proofs.Common.{sym, ap, ap₂, subst, ◌∙◌, inl, inr, add-mul, one-mul, zero-mul, mul-le-mul_right, mod-lt, div-add-mod', arith}
 use Rattle.std.proofs.Math.IntN.{+ℤ_idr}
 use Rattle.rounding.specs.Parts.{le-or-lt, with_sign, positive_part, negative_part, parts-equal}
@@ -9,7 +9,6 @@ use Rattle.rounding.specs.Laws as Laws
 use Rattle.rounding.specs.Laws.{Separate, same, below, above}
 use Rattle.rounding.proofs.Laws as RoundedLaws
 use Rattle.quantities.specs.declared.Scale.{Scale}
-use Rattle.quantities.specs.declared.Nearest.TheVariants.{Count}
 use Rattle.quantities.specs.Scale.{Sound, last_count}
 use Rattle.quantities.specs.Nearest.{turn_counts, wrap, farthest}
 use Rattle.quantities.specs.Statements.{LegalCount, gap, Shortest, Closest, Farther}
@@ -81,7 +80,7 @@ module _ (s : Scale) (k : Sound s) (circular : Circular s) (figure : ℤ) where
             (omega (arith, at_most d p, q.reached, gap-moved s circular figure other q.turns, Laws.nearest (rounded s k circular figure) (moved s circular other q.turns)))));
       }
 
-  pub circle_coded : (c : ℤ) → (answer s k circular figure) ≡ Count c → Closest true s figure c
+  pub circle_coded : (c : ℤ) → (answer s k circular figure) ≡ Some c → Closest true s figure c
   circle_coded = (answered s k circular figure) (Closest true s figure) closest
 
   -- where a figure is half a step from no count, the coded count is alone nearest
@@ -101,14 +100,14 @@ module _ (s : Scale) (k : Sound s) (circular : Circular s) (figure : ℤ) where
           ∙ sym again)))
       go (inr h) = h
 
-  pub circle_untied : ((c : ℤ) → 2 * gap s figure c ≢ s.numerator) → (c : ℤ) → (answer s k circular figure) ≡ Count c → Farther true s figure c
+  pub circle_untied : ((c : ℤ) → 2 * gap s figure c ≢ s.numerator) → (c : ℤ) → (answer s k circular figure) ≡ Some c → Farther true s figure c
   circle_untied never = (answered s k circular figure) (Farther true s figure) (alone never)
 
   -- a legal count that lies less than half a step, and at most half a millionth, away is the coded one
-  pub circle_alone : (c : ℤ) → LegalCount s c → 2 * gap s figure c < s.numerator → 2 * gap s figure c ≤ s.denominator → (answer s k circular figure) ≡ Count c
+  pub circle_alone : (c : ℤ) → LegalCount s c → 2 * gap s figure c < s.numerator → 2 * gap s figure c ≤ s.denominator → (answer s k circular figure) ≡ Some c
   circle_alone c l near fine =
       circle_within s (negative s k circular figure) (nat_abs figure) (half_turn (negative s k circular figure) size)
-      ∙ ap Count
+      ∙ ap Some
       (legal_once s circular (coded-count s k circular figure) c (wrapped_turns s circular (negative s k circular figure) (count s k circular figure)).0 (pos 0) (wrapped_legal s circular (negative s k circular figure) (count s k circular figure)) l
       ((wrapped_turns s circular (negative s k circular figure) (count s k circular figure)).1 ∙ sym (Laws.alone (rounded s k circular figure) c near) ∙ sym (unmoved c)))
     where

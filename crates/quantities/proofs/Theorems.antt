@@ -1,12 +1,11 @@
 -- The theorems on the five measured quantities, for every figure and every count. Each figure is coded or refused as document 01 asks,
 -- and every legal count's printed value is coded to that count.
-use Rattle.std.specs.Prelude.{◌≡◌, refl, ◌≢◌, ◌↔◌, not, ℕ, ◌+◌, ◌*◌, ◌%◌, ◌≤◌, ℤ, pos, nat_abs, ◌*ℤ◌}
+use Rattle.std.specs.Prelude.{◌≡◌, refl, ◌≢◌, ◌↔◌, not, ℕ, ◌+◌, ◌*◌, ◌%◌, ◌≤◌, ℤ, pos, nat_abs, ◌*ℤ◌, Some, None}
 use Rattle.std.proofs.Common.{sym, ◌∙◌, arith}
 use Rattle.rounding.specs.Parts.{is_negative, distance, nat_abs_sub}
 use Rattle.rounding.specs.Laws as Laws
 use Rattle.quantities.specs.declared.Quantity.{Quantity}
 use Rattle.quantities.specs.declared.Quantity.TheVariants.{Azimuth, Course, Glide, MlsAzimuth, MlsGlide}
-use Rattle.quantities.specs.declared.Nearest.TheVariants.{Count, OutOfReach}
 use Rattle.quantities.specs.Scale.{scale_of, on_circle, sound}
 use Rattle.quantities.specs.Nearest.{nearest_count, millionths_of}
 use Rattle.quantities.specs.Statements.{LegalCount, gap, Beyond, Coded, Farther}
@@ -22,17 +21,17 @@ pub circular : Circular (scale_of Azimuth)
 circular = omega arith
 
 -- a figure is refused exactly when it is out of reach
-pub refused : (q : Quantity) (figure : ℤ) → (nearest_count q figure ≡ OutOfReach) ↔ Beyond q figure
+pub refused : (q : Quantity) (figure : ℤ) → (nearest_count q figure ≡ None) ↔ Beyond q figure
 refused q figure =
-    by_shape (λ (q : Quantity). (nearest_count q figure ≡ OutOfReach) ↔ Beyond q figure)
+    by_shape (λ (q : Quantity). (nearest_count q figure ≡ None) ↔ Beyond q figure)
     (rw (nearest_circle Azimuth figure refl) (circle_refused (scale_of Azimuth) (sound Azimuth) circular figure))
     (λ q e. rw (nearest_line q figure e, e) (line_refused (scale_of q) (sound q) figure))
     q
 
 -- each to the nearest legal count, a tie to the even one
-pub coded : (q : Quantity) (figure c : ℤ) → nearest_count q figure ≡ Count c → Coded q figure c
+pub coded : (q : Quantity) (figure c : ℤ) → nearest_count q figure ≡ Some c → Coded q figure c
 coded q figure c =
-    by_shape (λ (q : Quantity). nearest_count q figure ≡ Count c → Coded q figure c)
+    by_shape (λ (q : Quantity). nearest_count q figure ≡ Some c → Coded q figure c)
     (λ h. circle_coded (scale_of Azimuth) (sound Azimuth) circular figure c (sym (nearest_circle Azimuth figure refl) ∙ h))
     (λ q e h. rw e (line_coded (scale_of q) (sound q) figure c (sym (nearest_line q figure e) ∙ h)).0)
     q
@@ -62,17 +61,17 @@ never_halfway q figure c = go q
     go MlsGlide e = twice (size * 16 + there * 1171875) (here * 1171875) 1171875 refl (omega (arith, e, gap_sides (scale_of MlsGlide) figure c))
 
 -- so no figure is a tie: every legal count but the coded one lies farther
-pub untied : (q : Quantity) (figure c : ℤ) → nearest_count q figure ≡ Count c → Farther (on_circle q) (scale_of q) figure c
+pub untied : (q : Quantity) (figure c : ℤ) → nearest_count q figure ≡ Some c → Farther (on_circle q) (scale_of q) figure c
 untied q figure c =
-    by_shape (λ (q : Quantity). nearest_count q figure ≡ Count c → Farther (on_circle q) (scale_of q) figure c)
+    by_shape (λ (q : Quantity). nearest_count q figure ≡ Some c → Farther (on_circle q) (scale_of q) figure c)
     (λ h. circle_untied (scale_of Azimuth) (sound Azimuth) circular figure (never_halfway Azimuth figure) c (sym (nearest_circle Azimuth figure refl) ∙ h))
     (λ q e h. rw e (line_untied (scale_of q) (sound q) figure (never_halfway q figure) c (sym (nearest_line q figure e) ∙ h)))
     q
 
 -- and the printed value of a legal count is coded to that count
-pub codes_back : (q : Quantity) (c : ℤ) → LegalCount (scale_of q) c → nearest_count q (millionths_of q c) ≡ Count c
+pub codes_back : (q : Quantity) (c : ℤ) → LegalCount (scale_of q) c → nearest_count q (millionths_of q c) ≡ Some c
 codes_back =
-    by_shape (λ (q : Quantity). (c : ℤ) → LegalCount (scale_of q) c → nearest_count q (millionths_of q c) ≡ Count c)
+    by_shape (λ (q : Quantity). (c : ℤ) → LegalCount (scale_of q) c → nearest_count q (millionths_of q c) ≡ Some c)
     (λ c l.
     nearest_circle Azimuth (millionths_of Azimuth c) refl
     ∙ circle_alone (scale_of Azimuth) (sound Azimuth) circular (millionths_of Azimuth c) c l (omega (arith, fine Azimuth c, (sound Azimuth).longer)) (fine Azimuth c))

@@ -1,28 +1,27 @@
 -- The definitions of `Nearest`, by the cases of their tests.
-use Rattle.std.specs.Prelude.{◌≡◌, ◌≢◌, ◌⊎◌, Bool, true, false, not, ℕ, ◌-◌, ◌%◌, ◌≤◌, ◌<◌, min, ℤ, nat_abs}
+use Rattle.std.specs.Prelude.{◌≡◌, ◌≢◌, ◌⊎◌, Bool, true, false, not, ℕ, ◌-◌, ◌%◌, ◌≤◌, ◌<◌, min, ℤ, nat_abs, Some, None}
 use Rattle.std.proofs.Common.{inl, inr, eq-or-lt_of_le, arith, le-leb}
 use Rattle.std.proofs.lemmas.Bool.{lt-leb}
 use Rattle.rounding.specs.Parts.{is_negative, with_sign}
 use Rattle.quantities.specs.declared.Quantity.{Quantity}
 use Rattle.quantities.specs.declared.Scale.{Scale}
-use Rattle.quantities.specs.declared.Nearest.TheVariants.{Count, OutOfReach}
 use Rattle.quantities.specs.Scale.{scale_of, on_circle, last_count}
 use Rattle.quantities.specs.Nearest.{reach, rounded_count, line_nearest, turn_counts, wrap, farthest, circle_nearest, nearest_count}
 
 module _ (s : Scale) (negative : Bool) (size : ℕ) where
-  pub line_within : size ≤ reach s negative → line_nearest s negative size ≡ Count (with_sign negative (min (rounded_count s size) (last_count s negative)))
+  pub line_within : size ≤ reach s negative → line_nearest s negative size ≡ Some (with_sign negative (min (rounded_count s size) (last_count s negative)))
   unfolding line_nearest
   line_within h = rw (le-leb size (reach s negative) h)
 
-  pub line_beyond : reach s negative < size → line_nearest s negative size ≡ OutOfReach
+  pub line_beyond : reach s negative < size → line_nearest s negative size ≡ None
   unfolding line_nearest
   line_beyond h = rw (lt-leb size (reach s negative) h)
 
-  pub circle_within : size ≤ farthest negative → circle_nearest s negative size ≡ Count (wrap s negative (rounded_count s size))
+  pub circle_within : size ≤ farthest negative → circle_nearest s negative size ≡ Some (wrap s negative (rounded_count s size))
   unfolding circle_nearest
   circle_within h = rw (le-leb size (farthest negative) h)
 
-  pub circle_beyond : farthest negative < size → circle_nearest s negative size ≡ OutOfReach
+  pub circle_beyond : farthest negative < size → circle_nearest s negative size ≡ None
   unfolding circle_nearest
   circle_beyond h = rw (lt-leb size (farthest negative) h)
 
@@ -51,8 +50,8 @@ less_if_other {a} {b} h ne = go (eq-or-lt_of_le h)
     go (inl e) = absurd (ne e)
     go (inr l) = l
 
-pub count_same : {a b : ℤ} → Count a ≡ Count b → a ≡ b
+pub count_same : {a b : ℤ} → Some a ≡ Some b → a ≡ b
 count_same e = cc
 
-pub refused-not-count : {c : ℤ} → OutOfReach ≡ Count c → ⊥
+pub refused-not-count : {c : ℤ} → None ≡ Some c → ⊥
 refused-not-count e = let z : ◌≡◌ {A = ℕ} 0 1 = cc in omega arith

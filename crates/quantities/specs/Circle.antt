@@ -1,6 +1,6 @@
 -- The azimuth: a value moved by whole turns is the value of a count moved by whole turns of counts, so the nearest of all whole
 -- numbers, less whole turns, is the nearest count round the circle.
-use Rattle.std.specs.Prelude.{◌≡◌, refl, ◌⊎◌, ◌↔◌, Bool, true, false, not, ℕ, zero, suc, ◌+◌, ◌-◌, ◌*◌, ◌/◌, ◌%◌, ◌≤◌, ◌<◌, ℤ, pos, negsuc, neg_ℤ, nat_abs, ◌+ℤ◌, ◌-ℤ◌, ◌*ℤ◌, ◌≤ℤ◌, ◌<ℤ◌}
+use Rattle.std.specs.Prelude.{◌≡◌, refl, ◌⊎◌, ◌↔◌, Bool, true, false, not, ℕ, zero, suc, ◌+◌, ◌-◌, ◌*◌, ◌/◌, ◌%◌, ◌≤◌, ◌<◌, ℤ, pos, negsuc, neg_ℤ, nat_abs, ◌+ℤ◌, ◌-ℤ◌, ◌*ℤ◌, ◌≤ℤ◌, ◌<ℤ◌, Option, Some, None}
 use Rattle.std.proofs.Common.{sym, ap, subst, ◌∙◌, inl, inr, add-mul, zero-mul, mul_assoc, arith, leb→le, le→leb, ltb→lt, lt→ltb}
 use Rattle.std.proofs.Math.Nat.{mul-mod_left}
 use Rattle.std.proofs.Math.IntN.{+ℤ_assoc, neg_ℤ-+ℤ}
@@ -10,8 +10,6 @@ use Rattle.rounding.specs.Laws as Laws
 use Rattle.rounding.specs.Laws.{below, above}
 use Rattle.rounding.proofs.Laws as RoundedLaws
 use Rattle.quantities.specs.declared.Scale.{Scale}
-use Rattle.quantities.specs.declared.Nearest.{Nearest}
-use Rattle.quantities.specs.declared.Nearest.TheVariants.{Count, OutOfReach}
 use Rattle.quantities.specs.Scale.{Sound, last_count}
 use Rattle.quantities.specs.Nearest.{rounded_count, turn_counts, wrap, farthest, circle_nearest}
 use Rattle.quantities.specs.Statements.{LegalCount, gap, gap_turned, Shortest, BeyondBy}
@@ -156,21 +154,21 @@ module _ (s : Scale) (k : Sound s) (circular : Circular s) (figure : ℤ) where
   pub rounded : Rounded (figure *ℤ pos s.denominator) s.numerator (with_sign negative count)
   rounded = counted s k figure
 
-  abbrev pub answer : Nearest
+  abbrev pub answer : Option ℤ
   answer = circle_nearest s negative (nat_abs figure)
 
   -- what holds of the coded count holds of the answer
-  pub answered : (P : ℤ → Type 0) → P coded-count → (c : ℤ) → answer ≡ Count c → P c
+  pub answered : (P : ℤ → Type 0) → P coded-count → (c : ℤ) → answer ≡ Some c → P c
   answered P p c e = go (le-or-lt (nat_abs figure) (farthest negative))
     where
       go : (nat_abs figure ≤ farthest negative) ⊎ (farthest negative < nat_abs figure) → P c
       go (inl h) = subst P (count_same (sym (circle_within s negative (nat_abs figure) h) ∙ e)) p
       go (inr h) = absurd (refused-not-count (sym (circle_beyond s negative (nat_abs figure) h) ∙ e))
 
-  pub circle_refused : (answer ≡ OutOfReach) ↔ BeyondBy true s figure
+  pub circle_refused : (answer ≡ None) ↔ BeyondBy true s figure
   circle_refused = go (le-or-lt (nat_abs figure) (farthest negative))
     where
-      go : (nat_abs figure ≤ farthest negative) ⊎ (farthest negative < nat_abs figure) → (answer ≡ OutOfReach) ↔ BeyondBy true s figure
+      go : (nat_abs figure ≤ farthest negative) ⊎ (farthest negative < nat_abs figure) → (answer ≡ None) ↔ BeyondBy true s figure
       go (inl h) =
           (λ e. absurd (refused-not-count (sym e ∙ circle_within s negative (nat_abs figure) h)), λ b. absurd (taken figure h b))
       go (inr h) = (λ _. beyond figure h, λ _. circle_beyond s negative (nat_abs figure) h)

@@ -1,14 +1,12 @@
 -- Course, glide and MLS figures: the count that `line_nearest` gives is the nearest legal one. Where the rounded count is past the last
 -- legal one, the figure lies exactly half a step past the last, which is then the only nearest.
-use Rattle.std.specs.Prelude.{◌≡◌, refl, ◌≢◌, ◌⊎◌, ◌↔◌, Bool, false, not, ℕ, suc, ◌+◌, ◌*◌, ◌≤◌, ◌<◌, min, ℤ, pos, nat_abs, ◌*ℤ◌}
+use Rattle.std.specs.Prelude.{◌≡◌, refl, ◌≢◌, ◌⊎◌, ◌↔◌, Bool, false, not, ℕ, suc, ◌+◌, ◌*◌, ◌≤◌, ◌<◌, min, ℤ, pos, nat_abs, ◌*ℤ◌, Option, Some, None}
 use Rattle.std.proofs.Common.{sym, ap, ◌∙◌, inl, inr, add-mul, suc-mul, one-mul, zero-mul, mul_assoc, mul_left_comm, mul-le-mul_right, le-div_iff_mul-le, div-lt_iff_lt-mul, le_of_lt, le_refl, arith}
 use Rattle.std.proofs.Math.Nat.{min-eq_left, min-eq_right, eq_of_mul-eq-mul_right}
 use Rattle.rounding.specs.Parts.{le-or-lt, is_negative, with_sign}
 use Rattle.rounding.specs.Rounding.{Rounded}
 use Rattle.rounding.specs.Laws as Laws
 use Rattle.quantities.specs.declared.Scale.{Scale}
-use Rattle.quantities.specs.declared.Nearest.{Nearest}
-use Rattle.quantities.specs.declared.Nearest.TheVariants.{Count, OutOfReach}
 use Rattle.quantities.specs.Scale.{Sound, last_count}
 use Rattle.quantities.specs.Nearest.{reach, rounded_count, line_nearest}
 use Rattle.quantities.specs.Statements.{LegalCount, gap, BeyondBy, Closest, Farther}
@@ -94,19 +92,19 @@ module _ (s : Scale) (k : Sound s) (figure : ℤ) where
       go (inl l) = rw (min-eq_left l) rounded.near
       go (inr l) = rw (min-eq_right (le_of_lt l)) (omega (arith, half_past h l, gap-signed s figure last))
 
-  abbrev answer : Nearest
+  abbrev answer : Option ℤ
   answer = line_nearest s negative (nat_abs figure)
 
   -- refused is what lies past the reach of its sign
-  pub line_past : (answer ≡ OutOfReach) ↔ (reach s negative < nat_abs figure)
+  pub line_past : (answer ≡ None) ↔ (reach s negative < nat_abs figure)
   line_past = go (le-or-lt (nat_abs figure) (reach s negative))
     where
-      go : (nat_abs figure ≤ reach s negative) ⊎ (reach s negative < nat_abs figure) → (answer ≡ OutOfReach) ↔ (reach s negative < nat_abs figure)
+      go : (nat_abs figure ≤ reach s negative) ⊎ (reach s negative < nat_abs figure) → (answer ≡ None) ↔ (reach s negative < nat_abs figure)
       go (inl h) =
           (λ e. absurd (refused-not-count (sym e ∙ line_within s negative (nat_abs figure) h)), λ k. absurd (omega (arith, h, k)))
       go (inr h) = (λ _. h, λ _. line_beyond s negative (nat_abs figure) h)
 
-  pub line_refused : (answer ≡ OutOfReach) ↔ BeyondBy false s figure
+  pub line_refused : (answer ≡ None) ↔ BeyondBy false s figure
   line_refused = (λ e. none_within (line_past.0 e), λ none. line_past.1 (past none (le-or-lt (nat_abs figure) (reach s negative))))
     where
       past : BeyondBy false s figure → (nat_abs figure ≤ reach s negative) ⊎ (reach s negative < nat_abs figure) → reach s negative < nat_abs figure
@@ -114,7 +112,7 @@ module _ (s : Scale) (k : Sound s) (figure : ℤ) where
       past none (inr h) = h
 
   -- the coded count is the closest, and lies within half a step
-  pub line_coded : (c : ℤ) → answer ≡ Count c → Closest false s figure c × (2 * gap s figure c ≤ s.numerator)
+  pub line_coded : (c : ℤ) → answer ≡ Some c → Closest false s figure c × (2 * gap s figure c ≤ s.numerator)
   line_coded c e = go (le-or-lt (nat_abs figure) (reach s negative))
     where
       go : (nat_abs figure ≤ reach s negative) ⊎ (reach s negative < nat_abs figure) → Closest false s figure c × (2 * gap s figure c ≤ s.numerator)
@@ -123,19 +121,19 @@ module _ (s : Scale) (k : Sound s) (figure : ℤ) where
       go (inr h) = absurd (refused-not-count (sym (line_beyond s negative (nat_abs figure) h) ∙ e))
 
   -- a legal count that lies less than half a step away is the coded one
-  pub line_alone : (c : ℤ) → LegalCount s c → 2 * gap s figure c < s.numerator → answer ≡ Count c
+  pub line_alone : (c : ℤ) → LegalCount s c → 2 * gap s figure c < s.numerator → answer ≡ Some c
   line_alone c l near = go (le-or-lt (nat_abs figure) (reach s negative))
     where
-      go : (nat_abs figure ≤ reach s negative) ⊎ (reach s negative < nat_abs figure) → answer ≡ Count c
+      go : (nat_abs figure ≤ reach s negative) ⊎ (reach s negative < nat_abs figure) → answer ≡ Some c
       go (inl h) =
           line_within s negative (nat_abs figure) h
-          ∙ ap Count
+          ∙ ap Some
           (Laws.alone rounded coded-count (omega (arith, near, (closest h).nearest c l _ _ refl refl))
           ∙ sym (Laws.alone rounded c near))
       go (inr h) = absurd (none_within h c l (le_of_lt near))
 
   -- where a figure is half a step from no count, the coded count is alone nearest
-  pub line_untied : ((c : ℤ) → 2 * gap s figure c ≢ s.numerator) → (c : ℤ) → answer ≡ Count c → Farther false s figure c
+  pub line_untied : ((c : ℤ) → 2 * gap s figure c ≢ s.numerator) → (c : ℤ) → answer ≡ Some c → Farther false s figure c
   line_untied never c h other l ne d e p q = go (le-or-lt e d)
     where
       go : (e ≤ d) ⊎ (d < e) → d < e

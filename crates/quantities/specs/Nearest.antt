@@ -1,11 +1,9 @@
 -- The count nearest to a figure, and the figure printed for a count.
-use Rattle.std.specs.Prelude.{Bool, true, false, not, cond, ℕ, ◌+◌, ◌-◌, ◌*◌, ◌/◌, ◌%◌, min, leb, ℤ, nat_abs}
+use Rattle.std.specs.Prelude.{Bool, true, false, not, cond, ℕ, ◌+◌, ◌-◌, ◌*◌, ◌/◌, ◌%◌, min, leb, ℤ, nat_abs, Option, Some, None}
 use Rattle.rounding.specs.Parts.{is_negative, with_sign}
 use Rattle.rounding.specs.Rounding.{round_even}
 use Rattle.quantities.specs.declared.Quantity.{Quantity}
 use Rattle.quantities.specs.declared.Scale.{Scale}
-use Rattle.quantities.specs.declared.Nearest.{Nearest}
-use Rattle.quantities.specs.declared.Nearest.TheVariants.{Count, OutOfReach}
 use Rattle.quantities.specs.Scale.{scale_of, on_circle, last_count}
 
 -- the size of the farthest figure within half a step of the last count of its sign
@@ -17,11 +15,11 @@ abbrev pub rounded_count : Scale → ℕ → ℕ
 rounded_count s size = round_even (size * s.denominator) s.numerator
 
 -- on a line: the rounded count, or the last one where that is past it
-unfoldable pub line_nearest : Scale → Bool → ℕ → Nearest
+unfoldable pub line_nearest : Scale → Bool → ℕ → Option ℤ
 line_nearest s negative size =
     cond (leb size (reach s negative))
-    (Count (with_sign negative (min (rounded_count s size) (last_count s negative))))
-    OutOfReach
+    (Some (with_sign negative (min (rounded_count s size) (last_count s negative))))
+    None
 
 -- the counts of a whole turn
 abbrev pub turn_counts : Scale → ℕ
@@ -40,14 +38,14 @@ farthest true = 180000000
 farthest false = 359999999
 
 -- on the circle: the rounded count, less whole turns
-unfoldable pub circle_nearest : Scale → Bool → ℕ → Nearest
+unfoldable pub circle_nearest : Scale → Bool → ℕ → Option ℤ
 circle_nearest s negative size =
     cond (leb size (farthest negative))
-    (Count (wrap s negative (rounded_count s size)))
-    OutOfReach
+    (Some (wrap s negative (rounded_count s size)))
+    None
 
 -- the legal count nearest to a figure in millionths
-unfoldable pub nearest_count : Quantity → ℤ → Nearest
+unfoldable pub nearest_count : Quantity → ℤ → Option ℤ
 nearest_count q figure =
     cond (on_circle q)
     (circle_nearest (scale_of q) (is_negative figure) (nat_abs figure))

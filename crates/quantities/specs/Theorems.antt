@@ -1,14 +1,12 @@
 -- The theorems on the five measured quantities, for every figure and every count. Each figure is coded or refused as document 01 asks,
 -- and every legal count's printed value is coded to that count.
-use Rattle.std.specs.Prelude.{◌≡◌, refl, ◌⊎◌, Bool, true, false, ℕ, suc, ◌*◌, ◌≤◌, ℤ, pos, negsuc, ◌*ℤ◌}
+use Rattle.std.specs.Prelude.{◌≡◌, refl, ◌⊎◌, Bool, true, false, ℕ, suc, ◌*◌, ◌≤◌, ℤ, pos, negsuc, ◌*ℤ◌, Option, Some, None}
 use Rattle.std.proofs.Common.{sym, ◌∙◌, inl, inr, arith}
 use Rattle.rounding.specs.Rounding.{Rounded}
 use Rattle.rounding.specs.Laws as Laws
 use Rattle.quantities.specs.declared.Quantity.{Quantity}
 use Rattle.quantities.specs.declared.Quantity.TheVariants.{Azimuth, Course, Glide, MlsAzimuth, MlsGlide}
 use Rattle.quantities.specs.declared.Scale.{Scale}
-use Rattle.quantities.specs.declared.Nearest.{Nearest}
-use Rattle.quantities.specs.declared.Nearest.TheVariants.{Count, OutOfReach}
 use Rattle.quantities.specs.Scale.{scale_of, on_circle, sound}
 use Rattle.quantities.specs.Nearest.{nearest_count, millionths_of}
 use Rattle.quantities.specs.Statements.{gap, AwayBy, Away, Printed}
@@ -25,15 +23,15 @@ by_shape P azimuth line MlsAzimuth = line MlsAzimuth refl
 by_shape P azimuth line MlsGlide = line MlsGlide refl
 
 -- all the rest are coded
-pub answered : (q : Quantity) (figure : ℤ) → (nearest_count q figure ≡ OutOfReach) ⊎ ((c : ℤ) × (nearest_count q figure ≡ Count c))
+pub answered : (q : Quantity) (figure : ℤ) → (nearest_count q figure ≡ None) ⊎ ((c : ℤ) × (nearest_count q figure ≡ Some c))
 answered q figure = go (nearest_count q figure)
   where
-    go : (r : Nearest) → (r ≡ OutOfReach) ⊎ ((c : ℤ) × (r ≡ Count c))
-    go (Count c) = inr (c, refl)
-    go OutOfReach = inl refl
+    go : (r : Option ℤ) → (r ≡ None) ⊎ ((c : ℤ) × (r ≡ Some c))
+    go (Some c) = inr (c, refl)
+    go None = inl refl
 
 -- and on a line to one within half a step
-pub within_half : (q : Quantity) → on_circle q ≡ false → (figure c : ℤ) → nearest_count q figure ≡ Count c → 2 * gap (scale_of q) figure c ≤ (scale_of q).numerator
+pub within_half : (q : Quantity) → on_circle q ≡ false → (figure c : ℤ) → nearest_count q figure ≡ Some c → 2 * gap (scale_of q) figure c ≤ (scale_of q).numerator
 within_half q e figure c h = (line_coded (scale_of q) (sound q) figure c (sym (nearest_line q figure e) ∙ h)).1
 
 -- every count has one distance from every figure

@@ -1,12 +1,12 @@
 #![tactic(auto)]
 
-ghost use Rattle.std.specs.Prelude.{◌≡◌, ◌≤◌, ◌<◌, ◌^◌, min};
+ghost use Rattle.std.specs.Prelude.{◌≡◌, ◌≤◌, ◌<◌, ◌^◌};
 ghost use Rattle.rounding.specs.Parts.{with_sign};
 ghost use Rattle.quantities.specs.Scale.{thirteen_bits, mls_scale, scale_of, on_circle, last_count, widest, Sound};
 ghost use Rattle.quantities.specs.Nearest.{line_nearest, wrap, farthest, circle_nearest, nearest_count, millionths_of};
 
 // The five measured quantities: VOR azimuth, ILS course and glide deviation, MLS azimuth and glide deviation.
-#[derive(Clone, Copy)]
+#[derive(Clone, Copy, PartialEq, Eq, Debug)]
 pub enum Quantity {
     Azimuth,
     Course,
@@ -16,19 +16,12 @@ pub enum Quantity {
 }
 
 // A step of numerator / denominator millionths, and the legal counts from -below to above.
-#[derive(Clone, Copy)]
+#[derive(Clone, Copy, PartialEq, Eq, Debug)]
 pub struct Scale {
     pub numerator: u64,
     pub denominator: u64,
     pub below: u64,
     pub above: u64,
-}
-
-// The count nearest to a figure, or none within reach.
-#[derive(Clone, Copy)]
-pub enum Nearest {
-    Count(i16),
-    OutOfReach,
 }
 
 // A step with the counts of 13 bits.
@@ -90,16 +83,6 @@ fn last_count(scale: Scale, negative: bool) -> u64
     scale.above
 }
 
-// The smaller of two numbers.
-fn smaller(a: u64, b: u64) -> u64
-    ensures { result ≡ min a b }
-{
-    if a < b {
-        return a;
-    }
-    b
-}
-
 // The count of this size and sign, which 16 bits hold.
 fn count_with_sign(negative: bool, size: u64) -> i16
     requires { size ≤ widest negative }
@@ -110,7 +93,7 @@ fn count_with_sign(negative: bool, size: u64) -> i16
 }
 
 // The nearest legal count on a line.
-fn nearest_on_line(scale: Scale, negative: bool, size: u64) -> Nearest
+fn nearest_on_line(scale: Scale, negative: bool, size: u64) -> Option<i16>
     requires { Sound scale }
     ensures { result ≡ line_nearest scale negative size }
 {
@@ -118,10 +101,10 @@ fn nearest_on_line(scale: Scale, negative: bool, size: u64) -> Nearest
     let numerator = scale.numerator;
     let denominator = scale.denominator;
     if (2 * last + 1) * numerator / (2 * denominator) < size {
-        return Nearest::OutOfReach;
+        return None;
     }
     let rounded = rounding::round_half_even(size * denominator, numerator);
-    Nearest::Count(count_with_sign(negative, smaller(rounded, last)))
+    Some(count_with_sign(negative, rounded.min(last)))
 }
 
 // The size of the farthest azimuth of a sign.
@@ -149,34 +132,28 @@ fn wrapped(scale: Scale, negative: bool, size: u64) -> i16
 }
 
 // The nearest legal count on the circle.
-fn nearest_on_circle(scale: Scale, negative: bool, size: u64) -> Nearest
+fn nearest_on_circle(scale: Scale, negative: bool, size: u64) -> Option<i16>
     requires { Sound scale }
     ensures { result ≡ circle_nearest scale negative size }
 {
     let numerator = scale.numerator;
     let denominator = scale.denominator;
     if farthest_azimuth(negative) < size {
-        return Nearest::OutOfReach;
+        return None;
     }
     let rounded = rounding::round_half_even(size * denominator, numerator);
-    Nearest::Count(wrapped(scale, negative, rounded))
+    Some(wrapped(scale, negative, rounded))
 }
 
 // Whether a quantity is an angle, measured round the circle.
 fn is_on_circle(quantity: Quantity) -> bool
     ensures { result ≡ on_circle quantity }
 {
-    match quantity {
-        Quantity::Azimuth => true,
-        Quantity::Course => false,
-        Quantity::Glide => false,
-        Quantity::MlsAzimuth => false,
-        Quantity::MlsGlide => false,
-    }
+    matches!(quantity, Quantity::Azimuth)
 }
 
 // The legal count nearest to a figure in millionths, a tie to the even one.
-pub fn nearest_count(quantity: Quantity, figure: i64) -> Nearest
+pub fn nearest_count(quantity: Quantity, figure: i64) -> Option<i16>
     ensures { result ≡ nearest_count quantity figure }
 {
     let scale = scale_of(quantity);

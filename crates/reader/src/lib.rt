@@ -1,11 +1,12 @@
 // What a reader of a sheet holds: the sheet and where the walk stands, together.
 #![tactic(auto)]
 
-use walk::Walk;
+use refusals::Refusal;
+use walk::Position;
 
 // A sheet and where the walk over it stands.
 #[derive(Clone, Copy)]
 pub struct Reader<'a> {
     pub sheet: &'a [u8],
-    pub at: Walk,
+    pub at: Result<Position, (Refusal, usize)>,
 }

@@ -5,11 +5,11 @@ ghost use Rattle.std.specs.Prelude.{◌≡◌};
 ghost use Rattle.fields.specs.Run.{sheet_of};
 ghost use Rattle.notes.specs.Note.{note_of, text_of, found_of, span_of, PartOf};
 
-use notes::NoteFound;
 use reader::Reader;
+use refusals::Refusal;
 
 // Where the text of the note at a place is, or why there is none.
-pub fn find_note<'a>(reader: Reader<'a>, place: usize) -> NoteFound
+pub fn find_note<'a>(reader: Reader<'a>, place: usize) -> Result<(usize, usize), (Refusal, usize)>
     ensures { result ≡ found_of place (note_of (sheet_of reader.entry.sheet.now) place) }
 {
     note_finder::find_note(reader.sheet, place)

@@ -6,15 +6,15 @@ ghost use Rattle.reasons.specs.Scaled.{scaled_agrees, scaled_for, reason_of};
 ghost use Rattle.explanations.specs.Explanations.{count_agrees};
 
 use quantities::Quantity;
-use reasons::{Reason, Scaled};
+use reasons::Reason;
 
 // Whether the figure agrees that a reason puts in the place of this one.
 fn reason_agrees(reason: Reason, quantity: Quantity, count: i16, millionths: i64) -> bool
     ensures { result ≡ scaled_agrees (count_agrees quantity count) (scaled_for reason millionths) }
 {
     match scaled_figures::scaled_for(reason, millionths) {
-        Scaled::Figure(scaled) => agreements::count_agrees(quantity, count, scaled),
-        Scaled::Nothing => false,
+        Some(scaled) => agreements::count_agrees(quantity, count, scaled),
+        None => false,
     }
 }
 

@@ -1,4 +1,5 @@
 // The numbers of the reasons.
+// A function and no `From`: an impl would stand in `reasons`, and `u8::from(reason)` does not say that it is the number; it is no plainer.
 #![tactic(auto)]
 
 ghost use Rattle.std.specs.Prelude.{◌≡◌};

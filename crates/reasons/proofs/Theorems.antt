@@ -1,6 +1,6 @@
 -- The reason that is found is the one that is told, and no other: it is true, and no earlier one is.
 -- Assumes nothing.
-use Rattle.std.specs.Prelude.{◌≡◌, Bool, false, not, cond, List, ◌⊎◌, ◌↔◌, ℕ, ◌*◌, ◌/◌, ◌%◌, ◌≤◌, ◌<◌, eqb, ℤ, pos, neg_ℤ, nat_abs, ◌*ℤ◌}
+use Rattle.std.specs.Prelude.{◌≡◌, Bool, false, not, cond, List, ◌⊎◌, ◌↔◌, ℕ, ◌*◌, ◌/◌, ◌%◌, ◌≤◌, ◌<◌, eqb, ℤ, pos, neg_ℤ, nat_abs, ◌*ℤ◌, Option, Some, None}
 use Rattle.std.proofs.Math.Path.{refl, ap, subst, subst⁻¹}
 use Rattle.std.proofs.Common.{sym, ◌∙◌, inl, inr, arith, eqb-true, eq-eqb, lit≤, lit<}
 use Rattle.std.proofs.Math.Bool.{true}
@@ -8,41 +8,41 @@ use Rattle.std.proofs.lemmas.Bool.{false≢true}
 use Rattle.std.proofs.Math.Decide.{dec_le}
 use Rattle.rounding.specs.Parts.{is_negative}
 use Rattle.signed_numbers.specs.Signed.{Fits, signed_of}
+use Rattle.signed_numbers.proofs.SignedTheorems.{signed_exactly}
 use Rattle.reasons.specs.declared.Reason.{Reason}
 use Rattle.reasons.specs.declared.Reason.TheVariants.{Agrees, Tenth, Hundredth, Thousandth, TenTimes, HundredTimes, ThousandTimes, OtherSign, NoneOfThese}
-use Rattle.reasons.specs.declared.Scaled.{Scaled}
 use Rattle.reasons.specs.Reasons.{number_of, Replaces, Agreeing, Holds, Told}
-use Rattle.reasons.specs.Scaled.{scaled_to, part_of, multiple_of, opposite_of, scaled_for, asked, first_of, scaled_agrees, reason_of}
-use Rattle.reasons.specs.Theorems.{clash, scaled_exactly, with-sign_times, with-sign_opposite, part-back, divides, part-of_times, Numbered, Member, reason_at, found_passes, found_first}
+use Rattle.reasons.specs.Scaled.{part_of, multiple_of, opposite_of, scaled_for, asked, first_of, scaled_agrees, reason_of}
+use Rattle.reasons.specs.Theorems.{clash, with-sign_times, with-sign_opposite, part-back, divides, part-of_times, Numbered, Member, reason_at, found_passes, found_first}
 
-part_exactly : (n : ℕ) (z m : ℤ) → 0 < n → (part_of n z ≡ Scaled.Figure m) ↔ ((m *ℤ pos n ≡ z) × Fits m)
+part_exactly : (n : ℕ) (z m : ℤ) → 0 < n → (part_of n z ≡ Some m) ↔ ((m *ℤ pos n ≡ z) × Fits m)
 part_exactly n z m h = (there (eqb (nat_abs z % n) 0) refl, here)
   where
-    there : (b : Bool) → eqb (nat_abs z % n) 0 ≡ b → cond b (scaled_to (signed_of (is_negative z) (nat_abs z / n))) Scaled.Nothing ≡ Scaled.Figure m
+    there : (b : Bool) → eqb (nat_abs z % n) 0 ≡ b → cond b (signed_of (is_negative z) (nat_abs z / n)) None ≡ Some m
         → (m *ℤ pos n ≡ z) × Fits m
     there true t e =
-        let k = (scaled_exactly (is_negative z) (nat_abs z / n) m).0 e in
+        let k = (signed_exactly (is_negative z) (nat_abs z / n) m).0 e in
         (ap (λ (x : ℤ). x *ℤ pos n) k.0 ∙ part-back z n (eqb-true (nat_abs z % n) 0 t), k.1)
     there false t e = clash (cc)
 
-    here : (m *ℤ pos n ≡ z) × Fits m → part_of n z ≡ Scaled.Figure m
-    here k = subst (λ (x : ℤ). part_of n x ≡ Scaled.Figure m) k.0
+    here : (m *ℤ pos n ≡ z) × Fits m → part_of n z ≡ Some m
+    here k = subst (λ (x : ℤ). part_of n x ≡ Some m) k.0
         (rw (eq-eqb (nat_abs (m *ℤ pos n) % n) 0 (divides m n))
-        ((scaled_exactly (is_negative (m *ℤ pos n)) (nat_abs (m *ℤ pos n) / n) m).1 (sym (part-of_times m n h), k.1)))
+        ((signed_exactly (is_negative (m *ℤ pos n)) (nat_abs (m *ℤ pos n) / n) m).1 (sym (part-of_times m n h), k.1)))
 
-multiple_exactly : (n : ℕ) (z m : ℤ) → (multiple_of n z ≡ Scaled.Figure m) ↔ ((m ≡ z *ℤ pos n) × Fits m)
+multiple_exactly : (n : ℕ) (z m : ℤ) → (multiple_of n z ≡ Some m) ↔ ((m ≡ z *ℤ pos n) × Fits m)
 multiple_exactly n z m =
-    let k = scaled_exactly (is_negative z) (nat_abs z * n) m in
+    let k = signed_exactly (is_negative z) (nat_abs z * n) m in
     (λ e. ((k.0 e).0 ∙ with-sign_times z n, (k.0 e).1), λ h. k.1 (h.0 ∙ sym (with-sign_times z n), h.1))
 
-opposite_exactly : (z m : ℤ) → (opposite_of z ≡ Scaled.Figure m) ↔ ((m ≡ neg_ℤ z) × Fits m)
+opposite_exactly : (z m : ℤ) → (opposite_of z ≡ Some m) ↔ ((m ≡ neg_ℤ z) × Fits m)
 opposite_exactly z m =
-    let k = scaled_exactly (not (is_negative z)) (nat_abs z) m in
+    let k = signed_exactly (not (is_negative z)) (nat_abs z) m in
     (λ e. ((k.0 e).0 ∙ with-sign_opposite z, (k.0 e).1), λ h. k.1 (h.0 ∙ sym (with-sign_opposite z), h.1))
 
 -- What a reason puts in the place of a figure is what the code computes for it.
-pub replaced_exactly : (r : Reason) (z m : ℤ) → Fits z → (scaled_for r z ≡ Scaled.Figure m) ↔ (Replaces r z m × Fits m)
-replaced_exactly Agrees z m f = (λ e. let same : m ≡ z = cc in (same, subst⁻¹ Fits same f), λ h. ap Scaled.Figure (sym h.0))
+pub replaced_exactly : (r : Reason) (z m : ℤ) → Fits z → (scaled_for r z ≡ Some m) ↔ (Replaces r z m × Fits m)
+replaced_exactly Agrees z m f = (λ e. let same : m ≡ z = cc in (same, subst⁻¹ Fits same f), λ h. ap Some (sym h.0))
 replaced_exactly Tenth z m f = part_exactly 10 z m (lit< tt)
 replaced_exactly Hundredth z m f = part_exactly 100 z m (lit< tt)
 replaced_exactly Thousandth z m f = part_exactly 1000 z m (lit< tt)
@@ -124,6 +124,6 @@ module _ (agrees : ℤ → Bool) (z : ℤ) where
       exactly : (r : Reason) → (scaled_agrees agrees (scaled_for r z) ≡ true) ↔ Agreeing agrees z r
       exactly r = (there (scaled_for r z) refl, λ h. ap (scaled_agrees agrees) ((replaced_exactly r z h.0 fits).1 (h.1, h.2)) ∙ h.3)
         where
-          there : (s : Scaled) → scaled_for r z ≡ s → scaled_agrees agrees s ≡ true → Agreeing agrees z r
-          there (Scaled.Figure m) d e = let k = (replaced_exactly r z m fits).0 d in (m, k.0, k.1, e)
-          there Scaled.Nothing d e = absurd (false≢true e)
+          there : (s : Option ℤ) → scaled_for r z ≡ s → scaled_agrees agrees s ≡ true → Agreeing agrees z r
+          there (Some m) d e = let k = (replaced_exactly r z m fits).0 d in (m, k.0, k.1, e)
+          there None d e = absurd (false≢true e)

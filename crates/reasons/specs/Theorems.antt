@@ -1,31 +1,20 @@
 -- The reason that is found is the one that is told, and no other: it is true, and no earlier one is.
 -- Assumes nothing.
-use Rattle.std.specs.Prelude.{◌≡◌, Bool, false, not, cond, List, [], ◌∷◌, ◌⊎◌, ◌↔◌, ℕ, zero, suc, ◌*◌, ◌/◌, ◌%◌, ◌≤◌, ◌<◌, eqb, ℤ, pos, negsuc, neg_ℤ, nat_abs, ◌*ℤ◌}
+use Rattle.std.specs.Prelude.{◌≡◌, Bool, false, not, cond, List, [], ◌∷◌, ◌⊎◌, ℕ, zero, suc, ◌*◌, ◌/◌, ◌%◌, ◌≤◌, ◌<◌, eqb, ℤ, pos, negsuc, neg_ℤ, nat_abs, ◌*ℤ◌}
 use Rattle.std.proofs.Math.Path.{refl, ap}
 use Rattle.std.proofs.Common.{sym, ap₂, ◌∙◌, inl, inr, zero-mul, mul-pos, mul-div_cancel, div-add-mod', arith}
 use Rattle.std.proofs.Math.Bool.{true}
 use Rattle.std.proofs.Math.Nat.{mul-mod_left}
 use Rattle.rounding.specs.Parts.{is_negative, with_sign, with_sign_nat_abs, nat_abs_with_sign}
-use Rattle.signed_numbers.specs.Signed.{Fits, signed_of}
-use Rattle.signed_numbers.proofs.SignedTheorems.{signed_exactly}
-use Rattle.signed_numbers.specs.declared.Signed.{Signed}
 use Rattle.reasons.specs.declared.Reason.{Reason}
 use Rattle.reasons.specs.declared.Reason.TheVariants.{NoneOfThese}
-use Rattle.reasons.specs.declared.Scaled.{Scaled}
 use Rattle.reasons.specs.Reasons.{number_of}
-use Rattle.reasons.specs.Scaled.{scaled_to, first_of}
+use Rattle.reasons.specs.Scaled.{first_of}
 
 pub clash : {A : Type 0} → ◌≡◌ {A = ℕ} 0 1 → A
 clash z = absurd (omega arith)
 
 -- ---- the figure that a reason puts in its place
-
-pub scaled_exactly : (negative : Bool) (size : ℕ) (m : ℤ) → (scaled_to (signed_of negative size) ≡ Scaled.Figure m) ↔ ((m ≡ with_sign negative size) × Fits m)
-scaled_exactly negative size m = (there (signed_of negative size) refl, λ h. ap scaled_to ((signed_exactly negative size m).1 h))
-  where
-    there : (s : Signed) → signed_of negative size ≡ s → scaled_to s ≡ Scaled.Figure m → (m ≡ with_sign negative size) × Fits m
-    there (Signed.Number x) d e = let same : x ≡ m = cc in (signed_exactly negative size m).0 (d ∙ ap Signed.Number same)
-    there Signed.TooLarge d e = clash (cc)
 
 -- a multiple of a signed number, by its sign and size
 pub with-sign_times : (z : ℤ) (n : ℕ) → with_sign (is_negative z) (nat_abs z * n) ≡ z *ℤ pos n

@@ -2,7 +2,7 @@
 #![tactic(auto)]
 
 // The nine reasons, in the order in which they are asked.
-#[derive(Clone, Copy)]
+#[derive(Clone, Copy, PartialEq, Eq, Debug)]
 pub enum Reason {
     // 1: the figure agrees
     Agrees,
@@ -22,11 +22,4 @@ pub enum Reason {
     OtherSign,
     // 9: none of these
     NoneOfThese,
-}
-
-// A figure in millionths in the place of another: there is none where it would not be a whole number, or one of 64 bits.
-#[derive(Clone, Copy)]
-pub enum Scaled {
-    Figure(i64),
-    Nothing,
 }

@@ -1,6 +1,6 @@
 -- Runs of words from any state: parts 1 to 4 in sequence from one source, with refused words anywhere, give their group, and a group is given only then.
 -- Assumes nothing.
-use Rattle.std.specs.Prelude.{ℕ, ◌≡◌, refl, true, eqb}
+use Rattle.std.specs.Prelude.{ℕ, ◌≡◌, refl, true, eqb, Result, Ok, Err}
 use Rattle.std.proofs.Common.{sym, ap, ap₂, ◌∙◌}
 use mathlib.Core.List.{List, [], ◌∷◌, ◌++◌, map, map-append, append_assoc}
 use Rattle.std.specs.Int.Count.{ones_in}
@@ -14,8 +14,7 @@ use Rattle.reassembly_parts.proofs.Run.{nothing-held as Parts-held}
 use Rattle.reassembly_parts.proofs.Run.{words-completed}
 use Rattle.reassembly_parts.specs.Run.{reply_of, next_of, replies, held_after, others, first_three, first_three_answers}
 use Rattle.reassembly_parts.proofs.Provenance.{CompletedBy, completed-only_by}
-use Rattle.part_words.specs.declared.PartIn.{PartIn}
-use Rattle.part_words.specs.declared.PartIn.TheVariants.{Carried, Refused}
+use Rattle.reassembly_parts.specs.declared.Part.{Part}
 use Rattle.reassembly.specs.declared.Reassembler.{Reassembler}
 use Rattle.reassembly.specs.declared.WordAnswer.{WordAnswer}
 use Rattle.reassembly.specs.declared.WordAnswer.TheVariants.{Incomplete, Complete}
@@ -24,13 +23,13 @@ use Rattle.reassembly.specs.Step.{new, step_of, take_word}
 use Rattle.part_words.specs.Bits.{group_from}
 use Rattle.reassembly.specs.Runs.{answers, after, PartsInSequence, sequence, sequence_answers, input_of, classify, word_answer, refused-others, is, sequence-step, sequence-answered, ws, complete_only, cut, headed, others-refused, GivenBy, carried_by, answers-append}
 
-step-answer : (s : Reassembler) (x : PartIn) → (step_of s x).answer ≡ word_answer (reply_of s.group_c (input_of x))
-step-answer s (Carried p) = refl
-step-answer s (Refused f) = refl
+step-answer : (s : Reassembler) (x : Result Part Refusal) → (step_of s x).answer ≡ word_answer (reply_of s.group_c (input_of x))
+step-answer s (Ok p) = refl
+step-answer s (Err f) = refl
 
-step-next : (s : Reassembler) (x : PartIn) → (step_of s x).next ≡ record { group_c = next_of s.group_c (input_of x) }
-step-next s (Carried p) = refl
-step-next s (Refused f) = refl
+step-next : (s : Reassembler) (x : Result Part Refusal) → (step_of s x).next ≡ record { group_c = next_of s.group_c (input_of x) }
+step-next s (Ok p) = refl
+step-next s (Err f) = refl
 
 pub answers_are : (s : Reassembler) (ws : List ℕ) → answers s ws ≡ map word_answer (replies s.group_c (map classify ws))
 answers_are s [] = refl

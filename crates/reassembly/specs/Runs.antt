@@ -1,6 +1,6 @@
 -- Runs of words from any state: parts 1 to 4 in sequence from one source, with refused words anywhere, give their group, and a group is given only then.
 -- Assumes nothing.
-use Rattle.std.specs.Prelude.{ℕ, ◌≡◌, refl}
+use Rattle.std.specs.Prelude.{ℕ, ◌≡◌, refl, Result, Ok, Err}
 use Rattle.std.proofs.Common.{sym, ap, ap₂, ◌∙◌, arith}
 use mathlib.Core.List.{List, [], ◌∷◌, ◌++◌, map, map-append, map-map, nil≢cons, head-eq_of_cons-eq, tail-eq_of_cons-eq}
 use Rattle.bits.specs.Fields.{bits}
@@ -11,8 +11,6 @@ use Rattle.reassembly_parts.specs.declared.Group.{Group}
 use Rattle.reassembly_parts.specs.declared.Part.{Part}
 use Rattle.reassembly_parts.specs.Run.{Input, part, other, Reply, answered, own}
 use Rattle.reassembly_parts.specs.Run.{others, first_three_answers}
-use Rattle.part_words.specs.declared.PartIn.{PartIn}
-use Rattle.part_words.specs.declared.PartIn.TheVariants.{Carried, Refused}
 use Rattle.reassembly.specs.declared.Reassembler.{Reassembler}
 use Rattle.reassembly.specs.declared.WordAnswer.{WordAnswer}
 use Rattle.reassembly.specs.declared.WordAnswer.TheVariants.{Incomplete, Complete}
@@ -34,7 +32,7 @@ after s (w ∷ ws) = after (take_word s w).next ws
 
 -- words that are all refused, by these refusals
 abbrev pub RefusedBy : List ℕ → List Refusal → Type 0
-RefusedBy xs fs = map part_in xs ≡ map Refused fs
+RefusedBy xs fs = map part_in xs ≡ map Err fs
 
 -- Four words that document 01's table allows, parts 1 to 4 of one source, and refused words between them.
 pub record PartsInSequence (w₁ w₂ w₃ w₄ : ℕ) (x₁ x₂ x₃ : List ℕ) (f₁ f₂ f₃ : List Refusal) : Type 0 where
@@ -60,9 +58,9 @@ sequence_answers f₁ f₂ f₃ =
 
 -- ---- words as the inputs of `reassembly_parts`
 
-abbrev pub input_of : PartIn → Input Refusal
-input_of (Carried p) = part p
-input_of (Refused f) = other f
+abbrev pub input_of : Result Part Refusal → Input Refusal
+input_of (Ok p) = part p
+input_of (Err f) = other f
 
 abbrev pub classify : ℕ → Input Refusal
 classify w = input_of (part_in w)
@@ -72,7 +70,7 @@ word_answer (answered x) = answer_of x
 word_answer (own f) = WordAnswer.Refused f
 
 pub refused-others : (xs : List ℕ) (fs : List Refusal) → RefusedBy xs fs → map classify xs ≡ others fs
-refused-others xs fs e = sym (map-map input_of part_in xs) ∙ ap (map input_of) e ∙ map-map input_of Refused fs
+refused-others xs fs e = sym (map-map input_of part_in xs) ∙ ap (map input_of) e ∙ map-map input_of Err fs
 
 -- ---- the group is given
 
@@ -102,13 +100,13 @@ complete_only (answered (Answer.Complete h)) g e = let i : h ≡ g = cc in ap (�
 complete_only (answered Answer.OutOfSequence) g e = let z : ◌≡◌ {A = ℕ} 0 1 = cc in absurd (omega arith)
 complete_only (own f) g e = let z : ◌≡◌ {A = ℕ} 0 1 = cc in absurd (omega arith)
 
-carried_only : (x : PartIn) (p : Part) → input_of x ≡ part p → x ≡ Carried p
-carried_only (Carried q) p e = let i : q ≡ p = cc in ap Carried i
-carried_only (Refused f) p e = let z : ◌≡◌ {A = ℕ} 0 1 = cc in absurd (omega arith)
+carried_only : (x : Result Part Refusal) (p : Part) → input_of x ≡ part p → x ≡ Ok p
+carried_only (Ok q) p e = let i : q ≡ p = cc in ap Ok i
+carried_only (Err f) p e = let z : ◌≡◌ {A = ℕ} 0 1 = cc in absurd (omega arith)
 
-refused-only : (x : PartIn) (f : Refusal) → input_of x ≡ other f → x ≡ Refused f
-refused-only (Carried q) f e = let z : ◌≡◌ {A = ℕ} 0 1 = cc in absurd (omega arith)
-refused-only (Refused h) f e = let i : h ≡ f = cc in ap Refused i
+refused-only : (x : Result Part Refusal) (f : Refusal) → input_of x ≡ other f → x ≡ Err f
+refused-only (Ok q) f e = let z : ◌≡◌ {A = ℕ} 0 1 = cc in absurd (omega arith)
+refused-only (Err h) f e = let i : h ≡ f = cc in ap Err i
 
 module _ {A B : Type 0} (f : A → B) where
   -- a list whose image is cut in two is cut there itself
@@ -149,7 +147,7 @@ others-refused [] [] e = refl
 others-refused [] (f ∷ fs) e = absurd (nil≢cons e)
 others-refused (x ∷ xs) [] e = absurd (nil≢cons (sym e))
 others-refused (x ∷ xs) (f ∷ fs) e =
-    ap₂ (λ (p : PartIn) (l : List PartIn). p ∷ l) (refused-only (part_in x) f (head-eq_of_cons-eq e)) (others-refused xs fs (tail-eq_of_cons-eq e))
+    ap₂ (λ (p : Result Part Refusal) (l : List (Result Part Refusal)). p ∷ l) (refused-only (part_in x) f (head-eq_of_cons-eq e)) (others-refused xs fs (tail-eq_of_cons-eq e))
 
 -- How a group was given in a run of words from a new state, `before` being the answers before it.
 pub record GivenBy (words : List ℕ) (before : List WordAnswer) (g : Group) : Type 0 where

@@ -1,6 +1,6 @@
 -- What taking one word answers and leaves, for every state and every word. Document 01, the last paragraph of "Readings, figures and joined groups".
 -- Assumes nothing.
-use Rattle.std.specs.Prelude.{ℕ, ◌≡◌, refl}
+use Rattle.std.specs.Prelude.{ℕ, ◌≡◌, refl, Result, Ok, Err}
 use Rattle.std.proofs.Common.{arith}
 use Rattle.refusals.specs.declared.Refusal.{Refusal}
 use Rattle.refusals.specs.declared.Refusal.TheVariants.{Sequence}
@@ -8,8 +8,7 @@ use Rattle.reassembly_parts.specs.declared.Answer.{Answer}
 use Rattle.reassembly_parts.specs.declared.Reassembly.TheVariants.{Empty}
 use Rattle.reassembly_parts.specs.declared.Step.{Step}
 use Rattle.reassembly_parts.specs.Take.{take_of}
-use Rattle.part_words.specs.declared.PartIn.{PartIn}
-use Rattle.part_words.specs.declared.PartIn.TheVariants.{Carried, Refused}
+use Rattle.reassembly_parts.specs.declared.Part.{Part}
 use Rattle.reassembly.specs.declared.Reassembler.{Reassembler}
 use Rattle.reassembly.specs.declared.WordAnswer.{WordAnswer}
 use Rattle.reassembly.specs.declared.WordStep.{WordStep}
@@ -29,9 +28,9 @@ abbrev pub stepped : Step → WordStep
 stepped t = record { next = record { group_c = t.next }; answer = answer_of t.answer }
 
 -- a part goes to the partial group of its kind; a refused word changes nothing
-abbrev pub step_of : Reassembler → PartIn → WordStep
-step_of s (Carried p) = stepped (take_of s.group_c p)
-step_of s (Refused f) = record { next = s; answer = WordAnswer.Refused f }
+abbrev pub step_of : Reassembler → Result Part Refusal → WordStep
+step_of s (Ok p) = stepped (take_of s.group_c p)
+step_of s (Err f) = record { next = s; answer = WordAnswer.Refused f }
 
 abbrev pub take_word : Reassembler → ℕ → WordStep
 take_word s w = step_of s (part_in w)

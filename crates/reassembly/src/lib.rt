@@ -5,15 +5,12 @@ ghost use Rattle.std.specs.Prelude.{◌≡◌};
 ghost use Rattle.part_words.specs.Parts.{only_parts, part_of, part_in};
 ghost use Rattle.reassembly.specs.Step.{new, answer_of, stepped, take_word};
 
-use decode::Decoded;
-use labels::Lookup;
-use part_words::PartIn;
 use reassembly_parts::{Answer, Group, Part, Reassembly, Step};
 use records::{Body, Kind};
 use refusals::Refusal;
 
 // What a word is answered.
-#[derive(Clone, Copy)]
+#[derive(Clone, Copy, PartialEq, Eq, Debug)]
 pub enum WordAnswer {
     // Its part is taken, and the next one is awaited.
     Incomplete,
@@ -24,69 +21,61 @@ pub enum WordAnswer {
 }
 
 // The partial groups: one, of group C.
-#[derive(Clone, Copy)]
+#[derive(Clone, Copy, PartialEq, Eq, Debug)]
 pub struct Reassembler {
     pub group_c: Reassembly,
 }
 
 // The answer to one word, with the partial groups that are then held.
-#[derive(Clone, Copy)]
+#[derive(Clone, Copy, PartialEq, Eq, Debug)]
 pub struct WordStep {
     pub next: Reassembler,
     pub answer: WordAnswer,
 }
 
 // What a label stands for among the parts: any other kind is an unknown label.
-fn only_parts(lookup: Lookup) -> Lookup
+fn only_parts(lookup: Option<Kind>) -> Option<Kind>
     ensures { result ≡ only_parts lookup }
 {
-    match lookup {
-        Lookup::Known(kind) => match kind {
-            Kind::Part1 | Kind::Part2 | Kind::Part3 | Kind::Part4 => Lookup::Known(kind),
-            _ => Lookup::Unknown,
-        },
-        Lookup::Unknown => Lookup::Unknown,
+    let kind = lookup?;
+    match kind {
+        Kind::Part1 | Kind::Part2 | Kind::Part3 | Kind::Part4 => Some(kind),
+        _ => None,
     }
 }
 
 // The part that a record carries.
-fn part_of(source: u8, body: Body) -> PartIn
+fn part_of(source: u8, body: Body) -> Result<Part, Refusal>
     ensures { result ≡ part_of source body }
 {
     match body {
         Body::Part1 {
             word_number,
             content,
-        } => PartIn::Carried(Part::One {
+        } => Ok(Part::One {
             source,
             content: word_number as u16 + 256 * (content as u16),
         }),
-        Body::Part2 { content } => PartIn::Carried(Part::Two { source, content }),
-        Body::Part3 { content } => PartIn::Carried(Part::Three { source, content }),
+        Body::Part2 { content } => Ok(Part::Two { source, content }),
+        Body::Part3 { content } => Ok(Part::Three { source, content }),
         Body::Part4 {
             parity_good,
             content,
-        } => PartIn::Carried(Part::Four {
+        } => Ok(Part::Four {
             source,
             content,
             parity_good,
         }),
-        _ => PartIn::Refused(Refusal::Label),
+        _ => Err(Refusal::Label),
     }
 }
 
 // What a word is to the reassembly of group C.
-pub fn part_in(word: u32) -> PartIn
+pub fn part_in(word: u32) -> Result<Part, Refusal>
     ensures { result ≡ part_in word }
 {
-    match decoder::decode_as(only_parts(word_kinds::kind_in(word)), word) {
-        Decoded::Accepted(record) => {
-            let source = record.source;
-            let body = record.body;
-            part_of(source, body)
-        }
-        Decoded::Refused(refusal) => PartIn::Refused(refusal),
-    }
+    let record = decoder::decode_as(only_parts(word_kinds::kind_in(word)), word)?;
+    part_of(record.source, record.body)
 }
 
 // A part's answer as its word's answer.
@@ -127,11 +116,11 @@ impl Reassembler {
         ensures { result ≡ take_word self word }
     {
         match part_in(word) {
-            PartIn::Carried(part) => {
+            Ok(part) => {
                 let held = self.group_c;
                 stepped_by(held.take(part))
             }
-            PartIn::Refused(refusal) => WordStep {
+            Err(refusal) => WordStep {
                 next: self,
                 answer: WordAnswer::Refused(refusal),
             },

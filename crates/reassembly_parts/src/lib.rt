@@ -5,7 +5,7 @@ ghost use Rattle.std.specs.Prelude.{◌≡◌};
 ghost use Rattle.reassembly_parts.specs.Take.{take_of, taken, dropped, from_same, bits_of};
 
 // One part of a group: the source of its word, bits 14 to 29 as a number, and in part four whether the parity was good, bit 11.
-#[derive(Clone, Copy)]
+#[derive(Clone, Copy, PartialEq, Eq, Debug)]
 pub enum Part {
     One {
         source: u8,
@@ -27,14 +27,14 @@ pub enum Part {
 }
 
 // A complete group: bits 13 to 76 of the received MLS word, bit 13 lowest, and whether its parity was good.
-#[derive(Clone, Copy)]
+#[derive(Clone, Copy, PartialEq, Eq, Debug)]
 pub struct Group {
     pub bits: u64,
     pub parity_good: bool,
 }
 
 // What a part is answered.
-#[derive(Clone, Copy)]
+#[derive(Clone, Copy, PartialEq, Eq, Debug)]
 pub enum Answer {
     // It is taken, and the next one is awaited.
     Incomplete,
@@ -45,7 +45,7 @@ pub enum Answer {
 }
 
 // The partial group: the source of the parts taken so far, and their contents in order.
-#[derive(Clone, Copy)]
+#[derive(Clone, Copy, PartialEq, Eq, Debug)]
 pub enum Reassembly {
     Empty,
     AfterOne(u8, u16),
@@ -54,7 +54,7 @@ pub enum Reassembly {
 }
 
 // The answer to one part, with the partial group that is then held.
-#[derive(Clone, Copy)]
+#[derive(Clone, Copy, PartialEq, Eq, Debug)]
 pub struct Step {
     pub next: Reassembly,
     pub answer: Answer,

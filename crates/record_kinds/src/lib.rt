@@ -1,4 +1,5 @@
 // The kind of a record, and a kind's place in document 01's table.
+// Functions and no methods or `From`: an impl would stand in `records` and state the same two definitions, so it is no plainer.
 #![tactic(auto)]
 
 ghost use Rattle.std.specs.Prelude.{◌≡◌};

@@ -5,7 +5,7 @@ use codes::{Category, Marker};
 use statuses::Status;
 
 // What a word is about.
-#[derive(Clone, Copy)]
+#[derive(Clone, Copy, PartialEq, Eq, Debug)]
 pub enum Kind {
     VorAzimuth,
     VorFrequency,
@@ -25,23 +25,23 @@ pub enum Kind {
 }
 
 // A count of 45/1024 degree.
-#[derive(Clone, Copy)]
+#[derive(Clone, Copy, PartialEq, Eq, Debug)]
 pub struct AzimuthCount(pub i16);
 
 // A count of 1/10240 of modulation depth difference.
-#[derive(Clone, Copy)]
+#[derive(Clone, Copy, PartialEq, Eq, Debug)]
 pub struct CourseCount(pub i16);
 
 // A count of 1/5120 of modulation depth difference.
-#[derive(Clone, Copy)]
+#[derive(Clone, Copy, PartialEq, Eq, Debug)]
 pub struct GlideCount(pub i16);
 
 // A count of 75/1024 mV.
-#[derive(Clone, Copy)]
+#[derive(Clone, Copy, PartialEq, Eq, Debug)]
 pub struct MlsCount(pub i16);
 
 // What a word of each kind holds beside its source. Frequencies are in tens of kHz, angles of 154 and 155 in tenths of a degree.
-#[derive(Clone, Copy)]
+#[derive(Clone, Copy, PartialEq, Eq, Debug)]
 pub enum Body {
     VorAzimuth {
         status: Status,
@@ -114,7 +114,7 @@ pub enum Body {
 }
 
 // An accepted word: its source (SDI) and what it holds.
-#[derive(Clone, Copy)]
+#[derive(Clone, Copy, PartialEq, Eq, Debug)]
 pub struct Record {
     pub source: u8,
     pub body: Body,

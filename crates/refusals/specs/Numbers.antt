@@ -1,9 +1,8 @@
 -- Document 01's number of each refusal, and the refusal of each number.
 -- Assumes nothing.
-use Rattle.std.specs.Prelude.{cond, List, [], ◌∷◌, ℕ, eqb}
+use Rattle.std.specs.Prelude.{cond, List, [], ◌∷◌, ℕ, eqb, Option, Some, None}
 use Rattle.refusals.specs.declared.Refusal.{Refusal}
 use Rattle.refusals.specs.declared.Refusal.TheVariants.{Parity, Label, ZeroBit, Code, Digit, Value, AngleParity, Reach, Truncated, Tag, Length, Depth, Room, Sequence, Oversize}
-use Rattle.refusals.specs.declared.Numbered.{Numbered}
 
 abbrev pub number_of : Refusal → ℕ
 number_of Parity = 1
@@ -28,9 +27,9 @@ refusals =
     Parity ∷ Label ∷ ZeroBit ∷ Code ∷ Digit ∷ Value ∷ AngleParity ∷ Reach ∷ Truncated ∷ Tag ∷ Length ∷ Depth ∷ Room ∷ Sequence ∷ Oversize ∷ []
 
 -- the refusal of a list that has this number, or none
-abbrev pub numbered : List Refusal → ℕ → Numbered
-numbered [] n = Numbered.Nothing
-numbered (f ∷ fs) n = cond (eqb n (number_of f)) (Numbered.Refusal f) (numbered fs n)
+abbrev pub numbered : List Refusal → ℕ → Option Refusal
+numbered [] n = None
+numbered (f ∷ fs) n = cond (eqb n (number_of f)) (Some f) (numbered fs n)
 
-abbrev pub refusal_of : ℕ → Numbered
+abbrev pub refusal_of : ℕ → Option Refusal
 refusal_of n = numbered refusals n

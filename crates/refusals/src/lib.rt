@@ -5,7 +5,7 @@ ghost use Rattle.std.specs.Prelude.{◌≡◌};
 ghost use Rattle.refusals.specs.Numbers.{number_of, refusal_of};
 
 // Why an input is refused. `number_of` in specs/ gives document 01's number of each.
-#[derive(Clone, Copy)]
+#[derive(Clone, Copy, PartialEq, Eq, Debug)]
 pub enum Refusal {
     // 1: the ones are even in number
     Parity,
@@ -39,13 +39,6 @@ pub enum Refusal {
     Oversize,
 }
 
-// The refusal of a number, or none.
-#[derive(Clone, Copy)]
-pub enum Numbered {
-    Refusal(Refusal),
-    Nothing,
-}
-
 // Document 01's number of a refusal.
 pub fn number(refusal: Refusal) -> u8
     ensures { result ≡ number_of refusal }
@@ -70,25 +63,25 @@ pub fn number(refusal: Refusal) -> u8
 }
 
 // The refusal that has this number.
-pub fn refusal_of(number: u8) -> Numbered
+pub fn refusal_of(number: u8) -> Option<Refusal>
     ensures { result ≡ refusal_of number }
 {
     match number {
-        1 => Numbered::Refusal(Refusal::Parity),
-        2 => Numbered::Refusal(Refusal::Label),
-        3 => Numbered::Refusal(Refusal::ZeroBit),
-        4 => Numbered::Refusal(Refusal::Code),
-        5 => Numbered::Refusal(Refusal::Digit),
-        6 => Numbered::Refusal(Refusal::Value),
-        7 => Numbered::Refusal(Refusal::AngleParity),
-        8 => Numbered::Refusal(Refusal::Reach),
-        9 => Numbered::Refusal(Refusal::Truncated),
-        10 => Numbered::Refusal(Refusal::Tag),
-        11 => Numbered::Refusal(Refusal::Length),
-        12 => Numbered::Refusal(Refusal::Depth),
-        13 => Numbered::Refusal(Refusal::Room),
-        14 => Numbered::Refusal(Refusal::Sequence),
-        15 => Numbered::Refusal(Refusal::Oversize),
-        _ => Numbered::Nothing,
+        1 => Some(Refusal::Parity),
+        2 => Some(Refusal::Label),
+        3 => Some(Refusal::ZeroBit),
+        4 => Some(Refusal::Code),
+        5 => Some(Refusal::Digit),
+        6 => Some(Refusal::Value),
+        7 => Some(Refusal::AngleParity),
+        8 => Some(Refusal::Reach),
+        9 => Some(Refusal::Truncated),
+        10 => Some(Refusal::Tag),
+        11 => Some(Refusal::Length),
+        12 => Some(Refusal::Depth),
+        13 => Some(Refusal::Room),
+        14 => Some(Refusal::Sequence),
+        15 => Some(Refusal::Oversize),
+        _ => None,
     }
 }

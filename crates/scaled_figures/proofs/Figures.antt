@@ -1,5 +1,6 @@
 -- What the proofs cite: parts and multiples by the sign and size that the code has found.
 -- Assumes nothing.
+use Rattle.std.specs.Prelude.{Option, None}
 use mathlib.Core.Path.{◌≡◌, sym, ap, ap₂, subst, ◌∙◌}
 use mathlib.Core.Bool.{Bool, true, false, not, cond}
 use mathlib.Core.Logic.{◌≢◌}
@@ -11,9 +12,7 @@ use lib.IntN.{ℤ, nat_abs}
 use Rattle.rounding.specs.Parts.{is_negative}
 use Rattle.signed_numbers.specs.Signed.{signed_of, greatest}
 use Rattle.signed_numbers.proofs.SignedTheorems.{signed_large}
-use Rattle.signed_numbers.specs.declared.Signed.{Signed}
-use Rattle.reasons.specs.Scaled.{scaled_to, part_of, multiple_of, opposite_of}
-use Rattle.reasons.specs.declared.Scaled.{Scaled}
+use Rattle.reasons.specs.Scaled.{part_of, multiple_of, opposite_of}
 
 above_greatest : (negative : Bool) (x : ℕ) → 2 ^ 63 < x → greatest negative < x
 above_greatest true x h = h
@@ -24,30 +23,29 @@ module _ {y z : ℤ} (same : y ≡ z) (n : ℕ) {size : ℕ} (sized : size ≡ n
   size_of : size ≡ nat_abs z
   size_of = sized ∙ ap nat_abs same
 
-  pub part_none : size % n ≢ 0 → Scaled.Nothing ≡ part_of n z
+  pub part_none : size % n ≢ 0 → None ≡ part_of n z
   part_none k =
-      ap (λ (t : Bool). cond t (scaled_to (signed_of (is_negative z) (nat_abs z / n))) Scaled.Nothing)
+      ap (λ (t : Bool). cond t (signed_of (is_negative z) (nat_abs z / n)) None)
       (sym (ne_eqb (nat_abs z % n) 0 (λ e. k (ap (λ (x : ℕ). x % n) size_of ∙ e))))
 
-  pub multiple_none : 0 < n → 9223372036854775808 / n < size → Scaled.Nothing ≡ multiple_of n z
+  pub multiple_none : 0 < n → 9223372036854775808 / n < size → None ≡ multiple_of n z
   multiple_none p k =
       let large : 9223372036854775808 < nat_abs z * n = subst (λ (x : ℕ). 9223372036854775808 < x * n) size_of ((div-lt_iff_lt-mul p).0 k) in
-      ap scaled_to (sym (signed_large (is_negative z) (nat_abs z * n) (above_greatest (is_negative z) (nat_abs z * n) (omega arith))))
+      sym (signed_large (is_negative z) (nat_abs z * n) (above_greatest (is_negative z) (nat_abs z * n) (omega arith)))
 
-  module _ {negative : Bool} (signed : negative ≡ is_negative y) {s : Signed} {r : Scaled} (told : r ≡ scaled_to s) where
-    pub part-whole : s ≡ signed_of negative (size / n) → size % n ≡ 0 → r ≡ part_of n z
+  module _ {negative : Bool} (signed : negative ≡ is_negative y) {r : Option ℤ} where
+    pub part-whole : r ≡ signed_of negative (size / n) → size % n ≡ 0 → r ≡ part_of n z
     part-whole f k =
-        told
-        ∙ ap scaled_to (f ∙ ap₂ (λ (b : Bool) (x : ℕ). signed_of b (x / n)) (signed ∙ ap is_negative same) size_of)
-        ∙ ap (λ (t : Bool). cond t (scaled_to (signed_of (is_negative z) (nat_abs z / n))) Scaled.Nothing)
+        f ∙ ap₂ (λ (b : Bool) (x : ℕ). signed_of b (x / n)) (signed ∙ ap is_negative same) size_of
+        ∙ ap (λ (t : Bool). cond t (signed_of (is_negative z) (nat_abs z / n)) None)
         (sym (eq-eqb (nat_abs z % n) 0 (ap (λ (x : ℕ). x % n) (sym size_of) ∙ k)))
 
-    pub multiple_found : s ≡ signed_of negative (size * n) → r ≡ multiple_of n z
-    multiple_found f = told ∙ ap scaled_to (f ∙ ap₂ (λ (b : Bool) (x : ℕ). signed_of b (x * n)) (signed ∙ ap is_negative same) size_of)
+    pub multiple_found : r ≡ signed_of negative (size * n) → r ≡ multiple_of n z
+    multiple_found f = f ∙ ap₂ (λ (b : Bool) (x : ℕ). signed_of b (x * n)) (signed ∙ ap is_negative same) size_of
 
 pub opposite_found : {y z : ℤ} → y ≡ z → {size : ℕ} → size ≡ nat_abs y → {negative : Bool} → negative ≡ is_negative y
-    → {s : Signed} {r : Scaled} → r ≡ scaled_to s → s ≡ signed_of (not negative) size → r ≡ opposite_of z
-opposite_found same h g e f = e ∙ ap scaled_to (f ∙ ap₂ (λ (b : Bool) (x : ℕ). signed_of (not b) x) (g ∙ ap is_negative same) (h ∙ ap nat_abs same))
+    → {r : Option ℤ} → r ≡ signed_of (not negative) size → r ≡ opposite_of z
+opposite_found same h g f = f ∙ ap₂ (λ (b : Bool) (x : ℕ). signed_of (not b) x) (g ∙ ap is_negative same) (h ∙ ap nat_abs same)
 
 -- a product that is not past 2 ^ 63 is one of 64 bits
 pub multiple_small : (size n : ℕ) → 0 < n → size ≤ 9223372036854775808 / n → size * n < 2 ^ 64

@@ -5,56 +5,42 @@ ghost use Rattle.std.specs.Prelude.{◌≡◌, ◌+◌, ◌-◌, ◌≤◌, ◌<
 ghost use Rattle.fields.specs.Run.{run_of, sheet_of, inside_of};
 ghost use Rattle.sheet.specs.Checked.{checked_of, after_inside, field_of};
 
-use fields::{FieldKind, Start};
+use fields::FieldKind;
 use refusals::Refusal;
 
-// What the check of a run of bytes says.
-#[derive(Clone, Copy)]
-pub enum Checked {
-    // Every field may stand where it stands.
-    Legal,
-    // The first refusal: number 9, 10, 11, 12 or 15 of document 01, and the offset of the field's tag.
-    Refused(Refusal, usize),
-}
-
-// What the check of one field, with its inside, says.
-#[derive(Clone, Copy)]
-pub enum FieldChecked {
-    // No byte is left.
-    End,
-    // The field is legal, and the run goes on at this place.
-    Next(usize),
-    // The first refusal in the field, and the offset of the tag of the field that it refuses.
-    Refused(Refusal, usize),
-}
-
 // A field goes on past its content once its inside is legal.
-fn after_inside(inside: Checked, next: usize) -> FieldChecked
+fn after_inside(
+    inside: Result<(), (Refusal, usize)>,
+    next: usize,
+) -> Result<Option<usize>, (Refusal, usize)>
     ensures { result ≡ after_inside inside next }
 {
-    match inside {
-        Checked::Legal => FieldChecked::Next(next),
-        Checked::Refused(refusal, place) => FieldChecked::Refused(refusal, place),
-    }
+    inside?;
+    Ok(Some(next))
 }
 
 // The check of the field at a place in a run whose first byte has this offset. Below the run's own depth so many are left: 3 at the top, where the depth is 1.
 #[cycle(check_field_check_run)]
-fn check_field(run: &[u8], at: usize, offset: usize, depths: u8) -> FieldChecked
+fn check_field(
+    run: &[u8],
+    at: usize,
+    offset: usize,
+    depths: u8,
+) -> Result<Option<usize>, (Refusal, usize)>
     requires { (depths ≤ 3) × (at ≤ length run.now) × (offset + length run.now < 0x10000000000000000) }
     ensures { result ≡ field_of (4 - depths) offset at run.now }
 {
     let place = offset + at;
     match field_headers::start_at(run, at, 4 - depths) {
-        Start::End => FieldChecked::End,
-        Start::Refused(refusal) => FieldChecked::Refused(refusal, place),
-        Start::Field(kind, length) => {
+        Ok(None) => Ok(None),
+        Err(refusal) => Err((refusal, place)),
+        Ok(Some((kind, length))) => {
             let from = at + 3;
             let next = from + length;
             match kind {
-                FieldKind::Word => FieldChecked::Next(next),
-                FieldKind::Figure => FieldChecked::Next(next),
-                FieldKind::Note => FieldChecked::Next(next),
+                FieldKind::Word => Ok(Some(next)),
+                FieldKind::Figure => Ok(Some(next)),
+                FieldKind::Note => Ok(Some(next)),
                 FieldKind::Group => {
                     after_inside(check_run(&run[from..next], place + 3, depths - 1), next)
                 }
@@ -65,49 +51,40 @@ fn check_field(run: &[u8], at: usize, offset: usize, depths: u8) -> FieldChecked
 
 // The check of a run of fields whose first byte has this offset, with so many depths left below its own.
 #[cycle(check_field_check_run)]
-fn check_run(run: &[u8], offset: usize, depths: u8) -> Checked
+fn check_run(run: &[u8], offset: usize, depths: u8) -> Result<(), (Refusal, usize)>
     requires { (depths ≤ 3) × (offset + length run.now < 0x10000000000000000) }
     ensures { result ≡ checked_of (run_of (4 - depths) offset run.now) }
 {
     let mut at: usize = 0;
-    loop {
-        match check_field(run, at, offset, depths) {
-            FieldChecked::End => {
-                return Checked::Legal;
-            }
-            FieldChecked::Refused(refusal, place) => {
-                return Checked::Refused(refusal, place);
-            }
-            FieldChecked::Next(next) => {
-                at = next;
-            }
-        }
+    while let Some(next) = check_field(run, at, offset, depths)? {
+        at = next;
     }
+    Ok(())
 }
 
 // Whether a sheet is legal, else its refusal: 15 first, then the first from the left.
-pub fn check_sheet(sheet: &[u8]) -> Checked
+pub fn check_sheet(sheet: &[u8]) -> Result<(), (Refusal, usize)>
     ensures { result ≡ checked_of (sheet_of sheet.now) }
 {
     if 32768 < sheet.len() {
-        return Checked::Refused(Refusal::Oversize, 0);
+        return Err((Refusal::Oversize, 0));
     }
     check_run(sheet, 0, 3)
 }
 
 // Whether a run of bytes may be the inside of a top group, else its first refusal, with the offset in the run.
-pub fn check_inside(run: &[u8]) -> Checked
+pub fn check_inside(run: &[u8]) -> Result<(), (Refusal, usize)>
     ensures { result ≡ checked_of (inside_of run.now) }
 {
     check_run(run, 0, 2)
 }
 
 // The check of the top field, with its inside, that begins at a place of a sheet.
-pub fn check_top_field(sheet: &[u8], at: usize) -> FieldChecked
+pub fn check_top_field(sheet: &[u8], at: usize) -> Result<Option<usize>, (Refusal, usize)>
     ensures { result ≡ field_of 1 0 at sheet.now }
 {
     if sheet.len() < at {
-        return FieldChecked::End;
+        return Ok(None);
     }
     check_field(sheet, at, 0, 3)
 }

@@ -8,10 +8,14 @@ ghost use Rattle.walk.specs.Walked.{after as afterSteps};
 ghost use Rattle.reader.specs.Fields.{is_field, field_at};
 
 use reader::Reader;
-use walk::{Given, Walk};
+use refusals::Refusal;
+use walk::{FieldAt, Position};
 
 // What one step of a walk gives.
-fn given_of(sheet: &[u8], walk: Walk) -> Given
+fn given_of(
+    sheet: &[u8],
+    walk: Result<Position, (Refusal, usize)>,
+) -> Result<Option<FieldAt>, (Refusal, usize)>
     ensures { result ≡ (step_of sheet.now walk).given }
 {
     let step = walker::step(sheet, walk);
@@ -19,30 +23,27 @@ fn given_of(sheet: &[u8], walk: Walk) -> Given
 }
 
 // Whether a step gave a field.
-fn is_field(given: Given) -> bool
+fn is_field(given: Result<Option<FieldAt>, (Refusal, usize)>) -> bool
     ensures { result ≡ is_field given }
 {
-    match given {
-        Given::Field(_) => true,
-        Given::Refused(_, _) => false,
-        Given::End => false,
-    }
+    matches!(given, Ok(Some(_)))
 }
 
 // Where a walk stands after so many steps; at the end and at a refusal it stays.
-fn walk_past(sheet: &[u8], walk: Walk, count: usize) -> Walk
+fn walk_past(
+    sheet: &[u8],
+    walk: Result<Position, (Refusal, usize)>,
+    count: usize,
+) -> Result<Position, (Refusal, usize)>
     ensures { result ≡ afterSteps count sheet.now walk }
 {
     let mut at = walk;
-    let mut left = count;
-    while 0 < left {
+    for _ in 0..count {
         let step = walker::step(sheet, at);
-        let given = step.given;
-        if !is_field(given) {
+        if !is_field(step.given) {
             return at;
         }
         at = step.next;
-        left -= 1;
     }
     at
 }
@@ -56,7 +57,7 @@ pub fn new<'a>(sheet: &'a [u8]) -> Reader<'a>
 }
 
 // The next field, with its place and depth; or the sheet's refusal; or the end.
-pub fn next<'a>(reader: Reader<'a>) -> Given
+pub fn next<'a>(reader: Reader<'a>) -> Result<Option<FieldAt>, (Refusal, usize)>
     ensures { result ≡ (step_of reader.entry.sheet.now reader.entry.at).given }
 {
     given_of(reader.sheet, reader.at)
@@ -81,7 +82,7 @@ pub fn after<'a>(reader: Reader<'a>) -> Reader<'a>
 }
 
 // The field with this index, counted from 0 in the order of the tags; or the sheet's refusal; or the end where there is none.
-pub fn field_at(sheet: &[u8], index: usize) -> Given
+pub fn field_at(sheet: &[u8], index: usize) -> Result<Option<FieldAt>, (Refusal, usize)>
     ensures { result ≡ field_at (sheet_of sheet.now) index }
 {
     next(skip(new(sheet), index))

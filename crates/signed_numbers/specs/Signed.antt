@@ -1,9 +1,7 @@
 -- A number of 64 bits by its sign and its size: every size up to 2 ^ 63 - 1, and 2 ^ 63 below 0 only.
-use Rattle.std.specs.Prelude.{Bool, true, false, cond, ℕ, zero, suc, ◌-◌, ◌≤◌, ◌^◌, leb, ℤ, nat_abs}
+use Rattle.std.specs.Prelude.{Bool, true, false, cond, ℕ, zero, suc, ◌-◌, ◌≤◌, ◌^◌, leb, ℤ, nat_abs, Option, Some, None}
 use Rattle.std.proofs.Common.{arith}
 use Rattle.rounding.specs.Parts.{is_negative, with_sign}
-use Rattle.signed_numbers.specs.declared.Signed.{Signed}
-use Rattle.signed_numbers.specs.declared.Signed.TheVariants.{Number, TooLarge}
 
 -- the greatest size of a sign
 abbrev pub greatest : Bool → ℕ
@@ -15,8 +13,8 @@ abbrev pub Fits : ℤ → Type 0
 Fits z = nat_abs z ≤ greatest (is_negative z)
 
 -- the number of this size and sign
-unfoldable pub signed_of : Bool → ℕ → Signed
-signed_of negative size = cond (leb size (greatest negative)) (Number (with_sign negative size)) TooLarge
+unfoldable pub signed_of : Bool → ℕ → Option ℤ
+signed_of negative size = cond (leb size (greatest negative)) (Some (with_sign negative size)) None
 
 -- ---- Theorems
 

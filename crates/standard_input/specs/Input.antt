@@ -1,7 +1,7 @@
 -- What is known after standard input was read into a buffer. No contract of the C library says which bytes a read gives, nor when it fails: that the answer counts bytes of the buffer is all that can be promised of a file or a pipe.
 -- Of a reader whose bytes are known, as a slice is, it is promised too that the buffer has the bytes that the reader gave.
 -- Assumes nothing.
-use Rattle.std.specs.Prelude.{List, ◌≡◌, ℕ, ◌+◌, ◌-◌, ◌≤◌, ◌<◌, ◌++◌, length, take, drop}
+use Rattle.std.specs.Prelude.{List, ◌≡◌, ℕ, ◌+◌, ◌-◌, ◌≤◌, ◌<◌, ◌++◌, length, take, drop, Some, None}
 use Rattle.std.proofs.Common.{sym, subst, arith, length-drop, length-take-le, drop_at, take_at}
 use Rattle.std.proofs.lemmas.List.{take-append-le}
 use Rattle.std.proofs.Math.Seq.{take-add}
@@ -9,13 +9,12 @@ use Rattle.std.proofs.KnownBytes.{Consumes-trans}
 use Rattle.std.specs.Io.KnownBytes.{Keeps, Consumes, IsAtEnd}
 use Rattle.std.specs.declared.option.Option.{Option}
 use Rattle.io.specs.Counts.{IsPrefixLen}
-use Rattle.standard_input.specs.declared.Input.{Input}
 use Rattle.standard_input.specs.declared.Chunk.{Chunk}
 
 -- the length counts bytes at the buffer's start
-abbrev pub Holds : Input → List ℕ → Type 0
-Holds (Input.Length n) after = IsPrefixLen n after
-Holds Input.Failed after = Unit {0}
+abbrev pub Holds : Option ℕ → List ℕ → Type 0
+Holds (Some n) after = IsPrefixLen n after
+Holds None after = Unit {0}
 
 -- one read: at least one byte, and at most as many as there is room for
 abbrev pub Adds : Chunk → ℕ → Type 0
@@ -25,9 +24,9 @@ Adds Chunk.Interrupted room = Unit {0}
 Adds Chunk.Failed room = Unit {0}
 
 -- what reading takes of the bytes that a reader has left, where those are known: the bytes that stand in the buffer, and all that there are unless they fill it
-abbrev pub Takes : Input → Option (List ℕ) → Option (List ℕ) → List ℕ → Type 0
-Takes (Input.Length n) left rest after = Consumes left rest (take n after) × (n < length after → IsAtEnd rest)
-Takes Input.Failed left rest after = Unit {0}
+abbrev pub Takes : Option ℕ → Option (List ℕ) → Option (List ℕ) → List ℕ → Type 0
+Takes (Some n) left rest after = Consumes left rest (take n after) × (n < length after → IsAtEnd rest)
+Takes None left rest after = Unit {0}
 
 -- what one read takes of them: the bytes that it adds, and none at the end or where it adds none
 abbrev pub TakesOnce : Chunk → Option (List ℕ) → Option (List ℕ) → List ℕ → Type 0
@@ -57,5 +56,5 @@ taken a b c d n front part rest long fits before read =
 
 -- ---- for a program: the length that it was told counts bytes of its buffer
 
-pub counted : (r : Input) (n : ℕ) (l : List ℕ) → r ≡ Input.Length n → Holds r l → IsPrefixLen n l
-counted r n l told h = subst (λ (x : Input). Holds x l) told h
+pub counted : (r : Option ℕ) (n : ℕ) (l : List ℕ) → r ≡ Some n → Holds r l → IsPrefixLen n l
+counted r n l told h = subst (λ (x : Option ℕ). Holds x l) told h

@@ -6,17 +6,8 @@ ghost use Rattle.standard_input.specs.Input.{Holds, Adds, Takes, TakesOnce};
 
 use std::io::{ErrorKind, Read};
 
-// What reading standard input gives.
-#[derive(Clone, Copy)]
-pub enum Input {
-    // The input stands in the buffer's first bytes, as many as this: all of it, or as much as the buffer holds.
-    Length(usize),
-    // It cannot be read.
-    Failed,
-}
-
 // What one read gives.
-#[derive(Clone, Copy)]
+#[derive(Clone, Copy, PartialEq, Eq, Debug)]
 pub enum Chunk {
     // As many bytes.
     Bytes(usize),
@@ -50,7 +41,7 @@ pub fn read_chunk<R: Read>(input: &mut R, buffer: &mut [u8]) -> Chunk
 }
 
 // Reads standard input until it ends or the buffer is full. A read that a signal interrupts is tried again, 65,536 times in all.
-pub fn read_all<R: Read>(input: &mut R, buffer: &mut [u8]) -> Input
+pub fn read_all<R: Read>(input: &mut R, buffer: &mut [u8]) -> Option<usize>
     ensures holds { Holds result buffer.new }
     ensures bytes { Takes result (R.remaining input.old) (R.remaining input.new) buffer.new }
 {
@@ -62,18 +53,15 @@ pub fn read_all<R: Read>(input: &mut R, buffer: &mut [u8]) -> Input
                 done += count;
             }
             Chunk::End => {
-                return Input::Length(done);
+                return Some(done);
             }
             Chunk::Interrupted => {
-                if tries == 0 {
-                    return Input::Failed;
-                }
-                tries -= 1;
+                tries = tries.checked_sub(1)?;
             }
             Chunk::Failed => {
-                return Input::Failed;
+                return None;
             }
         }
     }
-    Input::Length(done)
+    Some(done)
 }

@@ -4,23 +4,9 @@
 ghost use Rattle.std.specs.Prelude.{IfSome};
 ghost use Rattle.io.specs.Counts.{IsPrefixLen};
 
-use standard_input::Input;
 use std::env::FillError;
 use std::io;
 use std::rt::Env;
-
-// What a program was given: whether it was a sheet, and as many bytes at the start of its buffer.
-#[derive(Clone, Copy)]
-pub struct SheetInput {
-    pub read: bool,
-    pub length: usize,
-}
-
-// There is no sheet.
-const NO_SHEET: SheetInput = SheetInput {
-    read: false,
-    length: 0,
-};
 
 // Puts the argument at this place into a buffer and gives its length: 0 where it is longer, and none where there is no such argument. The program's name is at 0.
 pub fn argument(rt: &impl Env, place: usize, text: &mut [u8]) -> Option<usize>
@@ -54,29 +40,24 @@ pub fn say_unread(err: &impl Print, name: &[u8]) {
     say(err, name, b"standard input cannot be read\n");
 }
 
-// Reads the sheet of a program that takes no argument, or says why there is none. It is read to one byte past the longest sheet, so that a longer one is refused as such.
+// Reads the sheet of a program that takes no argument and gives its length, or says why there is none. It is read to one byte past the longest sheet, so that a longer one is refused as such.
 pub fn read_sheet<R: Env + io::Input>(
     rt: &R,
     err: &impl Print,
     name: &[u8],
     sheet: &mut [u8; 32769],
-) -> SheetInput
-    ensures { IsPrefixLen result.length sheet.new }
+) -> Option<usize>
+    ensures { IfSome result (λ n. IsPrefixLen n sheet.new) }
 {
     if argument(rt, 1, &mut []).is_some() {
         say_usage(err, name, b"SHEET");
-        return NO_SHEET;
+        return None;
     }
-    match standard_input::read_all(&mut rt.reader(), sheet) {
-        Input::Length(length) => SheetInput {
-            read: true,
-            length: length,
-        },
-        Input::Failed => {
-            say_unread(err, name);
-            NO_SHEET
-        }
+    let read = standard_input::read_all(&mut rt.reader(), sheet);
+    if read.is_none() {
+        say_unread(err, name);
     }
+    read
 }
 
 // Says that standard output cannot be written.

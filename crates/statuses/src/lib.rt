@@ -5,7 +5,7 @@ ghost use Rattle.std.specs.Prelude.{◌≡◌, ◌<◌};
 ghost use Rattle.statuses.specs.Statuses.{binary_status, binary_code, decimal_status, decimal_code};
 
 // The status (SSM) of a word.
-#[derive(Clone, Copy)]
+#[derive(Clone, Copy, PartialEq, Eq, Debug)]
 pub enum Status {
     Failure,
     NoData,

@@ -1,13 +1,12 @@
 -- Worked texts of summaries: with ready words, with counts below 0, with no ready word, and the two refusals.
 -- Assumes nothing.
-use Rattle.std.specs.Prelude.{◌≡◌, refl, [], ◌∷◌, ◌++◌, pos, negsuc}
+use Rattle.std.specs.Prelude.{◌≡◌, refl, [], ◌∷◌, ◌++◌, pos, negsuc, Some, None}
 use Rattle.rounding.specs.Rounding.{round_even}
 use Rattle.refusals.specs.declared.Refusal.{Refusal}
 use Rattle.quantities.specs.Nearest.{millionths_of}
 use Rattle.text.specs.Ascii.{ascii}
 use Rattle.numerals.specs.Digits.{decimal}
 use Rattle.summaries.specs.declared.Range.{Range}
-use Rattle.summaries.specs.declared.Mean.{Mean}
 use Rattle.summaries.specs.declared.Summary.{Summary}
 use Rattle.summaries.specs.declared.Summarized.{Summarized}
 use Rattle.summary_texts.specs.SummaryTexts.{range_line, summary_text}
@@ -23,7 +22,7 @@ courses = record {
   words = 32;
   range = Range.Course (record { 0 = pos 126 }) (record { 0 = pos 128 });
   sum = pos 254;
-  mean = Mean.Over (pos 254) 2;
+  mean = Some (pos 254, 2);
 }
 
 courses_text : summary_text 0o173 1 (Summarized.Summary courses) ≡
@@ -46,7 +45,7 @@ glides = record {
   words = 3;
   range = Range.Glide (record { 0 = negsuc 9 }) (record { 0 = pos 4 });
   sum = negsuc 4;
-  mean = Mean.Over (negsuc 4) 3;
+  mean = Some (negsuc 4, 3);
 }
 
 glides_text : summary_text 0o174 0 (Summarized.Summary glides) ≡
@@ -84,7 +83,7 @@ silent = record {
   words = 21;
   range = Range.Nothing;
   sum = pos 0;
-  mean = Mean.Nothing;
+  mean = None;
 }
 
 silent_text : summary_text 0o174 3 (Summarized.Summary silent) ≡

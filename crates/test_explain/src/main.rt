@@ -6,13 +6,11 @@
 ghost use Rattle.std.specs.Prelude.{◌≡◌};
 ghost use Rattle.test_explain.specs.Vectors.{right};
 
-use signed_numbers::Signed;
 use std::rt::Files;
 use test_vectors::Tally;
-use typed_words::TypedWord;
 
 // What a line says of a figure beside a word: the number of a refusal, or 0 and the number of a reason.
-#[derive(Clone, Copy)]
+#[derive(Clone, Copy, PartialEq, Eq, Debug)]
 struct Answer {
     refusal: u64,
     reason: u64,
@@ -57,9 +55,8 @@ fn answer_in(text: &[u8]) -> Answer {
             reason: reason_in(text),
         };
     }
-    let number = typed_numbers::read_number(refusal, 10, 18446744073709551615);
     Answer {
-        refusal: number.value,
+        refusal: typed_numbers::read_number(refusal, 10, 18446744073709551615).unwrap_or(0),
         reason: 0,
     }
 }
@@ -68,10 +65,10 @@ fn answer_in(text: &[u8]) -> Answer {
 fn is_line_right(line: &[u8]) -> bool {
     let after_word = typed_parts::text_behind(line, b' ');
     let figure = typed_parts::text_before(after_word, b' ');
-    let TypedWord::Word(word) = word_reader::read_word(typed_parts::text_before(line, b' ')) else {
+    let Some(word) = word_reader::read_word(typed_parts::text_before(line, b' ')) else {
         return false;
     };
-    let Signed::Number(millionths) = test_numbers::read_signed(figure) else {
+    let Some(millionths) = test_numbers::read_signed(figure) else {
         return false;
     };
     is_right(

@@ -6,20 +6,18 @@
 ghost use Rattle.std.specs.Prelude.{◌≡◌};
 ghost use Rattle.test_figures.specs.Vectors.{right};
 
-use encode::Encoded;
-use signed_numbers::Signed;
 use std::rt::Files;
 use test_vectors::Tally;
 
 // What a line says that coding gives: the number of a refusal, or 0 and a word.
-#[derive(Clone, Copy)]
+#[derive(Clone, Copy, PartialEq, Eq, Debug)]
 struct Answer {
     refusal: u64,
     word: u64,
 }
 
 // What a line says of a figure.
-#[derive(Clone, Copy)]
+#[derive(Clone, Copy, PartialEq, Eq, Debug)]
 struct Expected {
     label: u64,
     source: u64,
@@ -34,11 +32,11 @@ fn is_right(expected: Expected) -> bool
     let answer = expected.answer;
     let millionths = expected.millionths;
     match coder::code_figure(expected.label, expected.source, millionths) {
-        Encoded::Word(word) => {
+        Ok(word) => {
             (answer.refusal == 0)
                 & ((word as u64 == answer.word) & agreements::agrees(word, millionths))
         }
-        Encoded::Refused(refusal) => refusals::number(refusal) as u64 == answer.refusal,
+        Err(refusal) => refusals::number(refusal) as u64 == answer.refusal,
     }
 }
 
@@ -46,15 +44,13 @@ fn is_right(expected: Expected) -> bool
 fn answer_in(text: &[u8]) -> Answer {
     let refusal = typed_parts::text_behind(text, b' ');
     if refusal.len() == 0 {
-        let word = typed_numbers::read_number(text, 16, 18446744073709551615);
         return Answer {
             refusal: 0,
-            word: word.value,
+            word: typed_numbers::read_number(text, 16, 18446744073709551615).unwrap_or(0),
         };
     }
-    let number = typed_numbers::read_number(refusal, 10, 18446744073709551615);
     Answer {
-        refusal: number.value,
+        refusal: typed_numbers::read_number(refusal, 10, 18446744073709551615).unwrap_or(0),
         word: 0,
     }
 }
@@ -64,26 +60,29 @@ fn is_line_right(line: &[u8]) -> bool {
     let after_label = typed_parts::text_behind(line, b' ');
     let after_source = typed_parts::text_behind(after_label, b' ');
     let figure = typed_parts::text_before(after_source, b' ');
-    let label = typed_numbers::read_number(
+    let Some(label) = typed_numbers::read_number(
         typed_parts::text_before(line, b' '),
         8,
         18446744073709551615,
-    );
-    let source = typed_numbers::read_number(
+    ) else {
+        return false;
+    };
+    let Some(source) = typed_numbers::read_number(
         typed_parts::text_before(after_label, b' '),
         10,
         18446744073709551615,
-    );
-    let Signed::Number(millionths) = test_numbers::read_signed(figure) else {
+    ) else {
         return false;
     };
-    let right = is_right(Expected {
-        label: label.value,
-        source: source.value,
+    let Some(millionths) = test_numbers::read_signed(figure) else {
+        return false;
+    };
+    is_right(Expected {
+        label,
+        source,
         millionths,
         answer: answer_in(typed_parts::text_behind(after_source, b' ')),
-    });
-    (label.good & source.good) & right
+    })
 }
 
 // The tally of a text's lines.

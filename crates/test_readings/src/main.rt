@@ -1,8 +1,6 @@
 // Prints the readings of document 01's starred words, and three chart points, for comparison with `stdout`.
 #![tactic(auto)]
 
-use chart::Charted;
-use decode::Decoded;
 use readings::{Reading, Shown};
 use views::Setting;
 
@@ -100,11 +98,11 @@ fn print_word(out: &impl Print, word: u32) {
     let _ = print!(out; "{word:08x}");
     print(out, b" ");
     match decoder::decode(word) {
-        Decoded::Accepted(record) => {
+        Ok(record) => {
             let body = record.body;
             print_shown(out, record_readings::reading_of(body));
         }
-        Decoded::Refused(refusal) => {
+        Err(refusal) => {
             print(out, b"refused ");
             print_number(out, refusals::number(refusal) as u64);
         }
@@ -116,14 +114,14 @@ fn print_word(out: &impl Print, word: u32) {
 fn print_point(out: &impl Print, first: u32, second: u32) {
     print(out, b"chart ");
     match chart_points::chart_point(first, second) {
-        Charted::Point(point) => {
+        Ok(point) => {
             let course = point.course;
             let glide = point.glide;
             print_double(out, course);
             print(out, b" ");
             print_double(out, glide);
         }
-        Charted::Refused(refusal) => {
+        Err(refusal) => {
             print(out, b"refused ");
             print_number(out, refusals::number(refusal) as u64);
         }

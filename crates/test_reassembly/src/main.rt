@@ -7,7 +7,7 @@ use std::rt::Files;
 use test_vectors::Tally;
 
 // The lines read so far, and the parts that are then held.
-#[derive(Clone, Copy)]
+#[derive(Clone, Copy, PartialEq, Eq, Debug)]
 struct Progress {
     held: Reassembler,
     tally: Tally,
@@ -25,8 +25,7 @@ fn last_part(held: Reassembly) -> u64 {
 
 // Whether a text is this number.
 fn is_number(text: &[u8], value: u64) -> bool {
-    let read = typed_numbers::read_number(text, 10, 18446744073709551615);
-    read.good & (read.value == value)
+    typed_numbers::read_number(text, 10, 18446744073709551615) == Some(value)
 }
 
 // Whether a text is this number of bits and this parity.
@@ -63,7 +62,7 @@ fn says(text: &[u8], answer: WordAnswer, part: u64) -> bool {
 fn take_line(progress: Progress, line: &[u8]) -> Progress {
     let held = progress.held;
     let word = typed_numbers::read_number(typed_parts::text_before(line, b' '), 16, 4294967295);
-    let step = held.take((word.value % 4294967296) as u32);
+    let step = held.take((word.unwrap_or(0) % 4294967296) as u32);
     let next = step.next;
     let answer = step.answer;
     let partial = next.group_c;
@@ -75,7 +74,7 @@ fn take_line(progress: Progress, line: &[u8]) -> Progress {
     let tally = progress.tally;
     Progress {
         held: next,
-        tally: test_vectors::with_line(tally, word.good & right),
+        tally: test_vectors::with_line(tally, word.is_some() & right),
     }
 }
 

@@ -2,8 +2,6 @@
 // folder `flight` holds the example; in `faulty` each text has one byte changed or missing.
 #![tactic(auto)]
 
-use listing::Listed;
-use standard_input::Input;
 use std::fs::File;
 use std::io::Read;
 use std::rt::Files;
@@ -46,8 +44,8 @@ fn starts_with(text: &[u8], length: usize, expected: &[u8]) -> bool {
 fn is_listed(sheet: &[u8], expected: &[u8]) -> bool {
     let mut text = [0u8; 131072];
     match listing::list_sheet(sheet, &mut text) {
-        Listed::Length(length) => starts_with(&text, length, expected),
-        Listed::Refused(_) => false,
+        Ok(length) => starts_with(&text, length, expected),
+        Err(_) => false,
     }
 }
 
@@ -72,10 +70,10 @@ fn are_equal<F: Read + Drop>(sheet_file: Option<F>, text_file: Option<F>) -> boo
     };
     let mut sheet = [0u8; 32769];
     let mut expected = [0u8; 131072];
-    let Input::Length(read) = standard_input::read_all(&mut sheet_file, &mut sheet) else {
+    let Some(read) = standard_input::read_all(&mut sheet_file, &mut sheet) else {
         return false;
     };
-    let Input::Length(size) = standard_input::read_all(&mut text_file, &mut expected) else {
+    let Some(size) = standard_input::read_all(&mut text_file, &mut expected) else {
         return false;
     };
     is_listed(&sheet[..read], &expected[..size])

@@ -5,19 +5,17 @@
 #![tactic(auto)]
 
 use flat_summaries::FlatSummary;
-use signed_numbers::Signed;
 use std::rt::Files;
 use test_vectors::Tally;
 
 // Whether a text is this number.
 fn is_number(text: &[u8], number: u64) -> bool {
-    let read = typed_numbers::read_number(text, 10, 18446744073709551615);
-    read.good & (read.value == number)
+    typed_numbers::read_number(text, 10, 18446744073709551615) == Some(number)
 }
 
 // Whether a text is this number, with a minus or none.
 fn is_signed(text: &[u8], number: i64) -> bool {
-    let Signed::Number(read) = test_numbers::read_signed(text) else {
+    let Some(read) = test_numbers::read_signed(text) else {
         return false;
     };
     read == number
@@ -125,11 +123,10 @@ fn read_bytes(text: &[u8], out: &mut [u8]) -> usize {
         if out.len() <= i {
             return 18446744073709551615;
         }
-        let byte = typed_numbers::read_number(&text[2 * i..2 * i + 2], 16, 255);
-        if !byte.good {
+        let Some(byte) = typed_numbers::read_number(&text[2 * i..2 * i + 2], 16, 255) else {
             return 18446744073709551615;
-        }
-        out[i] = (byte.value % 256) as u8;
+        };
+        out[i] = (byte % 256) as u8;
         i += 1;
     }
     number
@@ -149,18 +146,26 @@ fn is_right_about(buffer: &[u8], length: usize, text: &[u8]) -> bool {
         return false;
     }
     let after_label = typed_parts::text_behind(text, b' ');
-    let label = typed_numbers::read_number(typed_parts::text_before(text, b' '), 8, 4294967295);
-    let source = typed_numbers::read_number(
+    let Some(label) = typed_numbers::read_number(
+        typed_parts::text_before(text, b' '),
+        8,
+        4294967295,
+    ) else {
+        return false;
+    };
+    let Some(source) = typed_numbers::read_number(
         typed_parts::text_before(after_label, b' '),
         10,
         4294967295,
-    );
+    ) else {
+        return false;
+    };
     let found = flat_summaries::summarize_flat(
         &buffer[..length],
-        (label.value % 4294967296) as u32,
-        (source.value % 4294967296) as u32,
+        (label % 4294967296) as u32,
+        (source % 4294967296) as u32,
     );
-    label.good & source.good & is_right(typed_parts::text_behind(after_label, b' '), found)
+    is_right(typed_parts::text_behind(after_label, b' '), found)
 }
 
 // Whether a line is well formed and right; its sheet is stored in a buffer.

@@ -5,13 +5,12 @@ ghost use Rattle.std.specs.Prelude.{◌≡◌};
 ghost use Rattle.io.specs.Counts.{IsPrefixLen};
 ghost use Rattle.test_vectors.specs.Tally.{with_line};
 
-use standard_input::Input;
 use std::fs::File;
 use std::rt::Files;
 use std::str;
 
 // How many lines were read and how many are wrong, and which of them is the first, counted from 1.
-#[derive(Clone, Copy)]
+#[derive(Clone, Copy, PartialEq, Eq, Debug)]
 pub struct Tally {
     pub lines: u64,
     pub wrong: u64,
@@ -101,8 +100,8 @@ pub fn read_file<R: Files + Print + Eprint>(rt: &R, name: &[u8], text: &mut [u8]
         return refused(rt, name, b": cannot be opened\n");
     };
     let n = match standard_input::read_all(&mut file, text) {
-        Input::Length(length) => length,
-        Input::Failed => 0,
+        Some(length) => length,
+        None => 0,
     };
     if n == 0 {
         return refused(rt, name, b": is empty, or cannot be read\n");

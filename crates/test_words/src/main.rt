@@ -7,13 +7,12 @@ ghost use Rattle.decode.specs.Decode.{decode_of};
 ghost use Rattle.pages.specs.Page.{refusal_in, count_in, count_of};
 ghost use Rattle.test_words.specs.Vectors.{written, right};
 
-use decode::Decoded;
-use measurements::Measurement;
+use quantities::Quantity;
 use std::rt::Files;
 use test_vectors::Tally;
 
 // What a line says of a word.
-#[derive(Clone, Copy)]
+#[derive(Clone, Copy, PartialEq, Eq, Debug)]
 struct Expected {
     word: u32,
     refusal: u32,
@@ -26,18 +25,18 @@ fn refusal_of(word: u32) -> u32
     ensures { result ≡ refusal_in (decode_of word) }
 {
     match decoder::decode(word) {
-        Decoded::Accepted(_) => 0,
-        Decoded::Refused(refusal) => refusals::number(refusal) as u32,
+        Ok(_) => 0,
+        Err(refusal) => refusals::number(refusal) as u32,
     }
 }
 
 // The count of a word of the five measured labels.
-fn count_in(measurement: Measurement) -> i16
+fn count_in(measurement: Option<(Quantity, i16)>) -> i16
     ensures { result ≡ count_in measurement }
 {
     match measurement {
-        Measurement::Count(_, count) => count,
-        Measurement::Nothing => 0,
+        Some((_, count)) => count,
+        None => 0,
     }
 }
 
@@ -46,11 +45,11 @@ fn count_of(word: u32) -> i16
     ensures { result ≡ count_of (decode_of word) }
 {
     match decoder::decode(word) {
-        Decoded::Accepted(found) => {
+        Ok(found) => {
             let body = found.body;
             count_in(measurements::measurement_of(body))
         }
-        Decoded::Refused(_) => 0,
+        Err(_) => 0,
     }
 }
 
@@ -58,7 +57,7 @@ fn count_of(word: u32) -> i16
 fn is_written(count: i16, negative: bool, size: u32) -> bool
     ensures { result ≡ written count negative size }
 {
-    let digits = bits::complement_16(count);
+    let digits = bits::complement::<16>(count);
     if digits < 32768 {
         !negative & (digits == size)
     } else {
@@ -79,16 +78,29 @@ fn is_right(expected: Expected) -> bool
 fn is_line_right(line: &[u8]) -> bool {
     let rest = typed_parts::text_behind(line, b' ');
     let count = typed_parts::text_behind(rest, b' ');
-    let word = typed_numbers::read_number(typed_parts::text_before(line, b' '), 16, 4294967295);
-    let refusal = typed_numbers::read_number(typed_parts::text_before(rest, b' '), 10, 4294967295);
-    let size = typed_numbers::read_size(count, 4294967295);
-    let right = is_right(Expected {
-        word: (word.value % 4294967296) as u32,
-        refusal: (refusal.value % 4294967296) as u32,
+    let Some(word) = typed_numbers::read_number(
+        typed_parts::text_before(line, b' '),
+        16,
+        4294967295,
+    ) else {
+        return false;
+    };
+    let Some(refusal) = typed_numbers::read_number(
+        typed_parts::text_before(rest, b' '),
+        10,
+        4294967295,
+    ) else {
+        return false;
+    };
+    let Some(size) = typed_numbers::read_size(count, 4294967295) else {
+        return false;
+    };
+    is_right(Expected {
+        word: (word % 4294967296) as u32,
+        refusal: (refusal % 4294967296) as u32,
         negative: typed_parts::starts_with(count, b'-'),
-        size: (size.value % 4294967296) as u32,
-    });
-    (word.good & refusal.good) & (size.good & right)
+        size: (size % 4294967296) as u32,
+    })
 }
 
 // The tally of a text's lines.

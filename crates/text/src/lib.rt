@@ -2,18 +2,8 @@
 // A place that would pass the largest number stays there.
 #![tactic(auto)]
 
-ghost use Rattle.std.specs.Prelude.{◌≡◌, [], ◌∷◌, ◌+◌, min};
-ghost use Rattle.text.specs.Writing.{last, Writes};
-
-// The place after this one.
-fn place_after(at: usize) -> usize
-    ensures { result ≡ min (at + 1) last }
-{
-    if at == 18446744073709551615 {
-        return at;
-    }
-    at + 1
-}
+ghost use Rattle.std.specs.Prelude.{[], ◌∷◌};
+ghost use Rattle.text.specs.Writing.{Writes};
 
 // A byte.
 pub fn put_byte(out: &mut [u8], at: usize, byte: u8) -> usize
@@ -23,7 +13,7 @@ pub fn put_byte(out: &mut [u8], at: usize, byte: u8) -> usize
         out[at] = byte;
         return at + 1;
     }
-    place_after(at)
+    at.saturating_add(1)
 }
 
 // A text of bytes.
@@ -31,10 +21,8 @@ pub fn put_text(out: &mut [u8], at: usize, text: &[u8]) -> usize
     ensures { Writes out.old at text.now out.new result }
 {
     let mut next = at;
-    let mut i = 0;
-    while i < text.len() {
-        next = put_byte(out, next, text[i]);
-        i += 1;
+    for &byte in text {
+        next = put_byte(out, next, byte);
     }
     next
 }

@@ -2,34 +2,32 @@
 -- Assumes nothing.
 use Rattle.std.proofs.Math.Path.{◌≡◌, refl}
 use Rattle.std.proofs.Common.{sym, ap, ap₂, ◌∙◌, append_assoc, arith, ltb-true, leb-true, lt-ltb, le-leb}
-use Rattle.std.specs.Prelude.{Bool, ◌&&◌, List, [], ◌∷◌, ◌++◌, ◌↔◌, ℕ, suc, ◌+◌, ◌-◌, ◌*◌, ◌/◌, ◌^◌, ◌<◌, ltb, leb, ℤ, pos, negsuc, length}
+use Rattle.std.specs.Prelude.{Bool, ◌&&◌, List, [], ◌∷◌, ◌++◌, ◌↔◌, ℕ, suc, ◌+◌, ◌-◌, ◌*◌, ◌/◌, ◌^◌, ◌<◌, ltb, leb, ℤ, pos, negsuc, length, Option, Some, None}
 use Rattle.std.proofs.Math.Bool.{true, false, cond}
 use Rattle.rounding.specs.Parts.{with_sign}
-use Rattle.signed_numbers.specs.declared.Signed.{Signed}
 use Rattle.signed_numbers.specs.Signed.{Fits, signed_of}
 use Rattle.signed_numbers.proofs.SignedTheorems.{signed_exactly}
 use Rattle.numerals.specs.Digits.{padded, decimal, fixed, sign, signed_fixed}
 use Rattle.numerals.specs.Theorems.{Digits, value, decimal-digits, decimal-value, padded-digits, padded-value, padded-length}
 use Rattle.typed_texts.specs.Texts.{text_before, text_behind, starts_with}
 use Rattle.typed_texts.specs.Numbers.{are_digits}
-use Rattle.typed_figures.specs.declared.TypedFigure.{TypedFigure}
-use Rattle.typed_figures.specs.Figures.{behind_sign, separator_of, are_parts, millionths_of, typed, parts_read, figure_of}
+use Rattle.typed_figures.specs.Figures.{behind_sign, separator_of, are_parts, millionths_of, parts_read, figure_of}
 use Rattle.typed_figures.specs.Grammar.{point, Typed, Printed}
 use Rattle.typed_figures.specs.DigitTexts.{both, digits_read, digits-only, value_read}
 use Rattle.typed_figures.specs.Rows.{sign-row}
 use Rattle.typed_figures.proofs.Rows.{body_row, row_read}
-use Rattle.typed_figures.specs.Theorems.{typed-number, printed-sign, printed-typed, signed-printed, fixed-of-parts, no_leading-zero}
+use Rattle.typed_figures.specs.Theorems.{printed-sign, printed-typed, signed-printed, fixed-of-parts, no_leading-zero}
 
 module _ (negative : Bool) (w d : List ℕ) (z : ℤ) where
-  parts_there : parts_read negative w d ≡ TypedFigure.Millionths z → (are_parts w d ≡ true) × (signed_of negative (millionths_of w d) ≡ Signed.Number z)
+  parts_there : parts_read negative w d ≡ Some z → (are_parts w d ≡ true) × (signed_of negative (millionths_of w d) ≡ Some z)
   unfolding parts_read
   parts_there = go (are_parts w d) refl
     where
-      go : (b : Bool) → are_parts w d ≡ b → cond b (typed (signed_of negative (millionths_of w d))) TypedFigure.Unread ≡ TypedFigure.Millionths z → (are_parts w d ≡ true) × (signed_of negative (millionths_of w d) ≡ Signed.Number z)
-      go true e h = (e, typed-number (signed_of negative (millionths_of w d)) z h)
+      go : (b : Bool) → are_parts w d ≡ b → cond b (signed_of negative (millionths_of w d)) None ≡ Some z → (are_parts w d ≡ true) × (signed_of negative (millionths_of w d) ≡ Some z)
+      go true e h = (e, h)
       go false e h = let k : ◌≡◌ {A = ℕ} 0 1 = cc in absurd (omega arith)
 
-  parts-back : are_parts w d ≡ true → signed_of negative (millionths_of w d) ≡ Signed.Number z → parts_read negative w d ≡ TypedFigure.Millionths z
+  parts-back : are_parts w d ≡ true → signed_of negative (millionths_of w d) ≡ Some z → parts_read negative w d ≡ Some z
   unfolding parts_read
   parts-back e h = rw (e, h) refl
 
@@ -37,7 +35,7 @@ module _ (negative : Bool) (w d : List ℕ) (z : ℤ) where
 millionths-value : (w d : List ℕ) → Digits 10 w → Digits 10 d → millionths_of w d ≡ value 10 w * 10 ^ 6 + value 10 d * 10 ^ (6 - length d)
 millionths-value w d h k = ap₂ (λ (x y : ℕ). x * 10 ^ 6 + y * 10 ^ (6 - length d)) (value_read w h) (value_read d k)
 
-read_typed : (t : List ℕ) (z : ℤ) → figure_of t ≡ TypedFigure.Millionths z → Typed t z
+read_typed : (t : List ℕ) (z : ℤ) → figure_of t ≡ Some z → Typed t z
 unfolding figure_of
 read_typed t z e =
     let g = sign-row t in
@@ -69,7 +67,7 @@ read_typed t z e =
       fits = number.1;
     }
 
-typed_read : (t : List ℕ) (z : ℤ) → Typed t z → figure_of t ≡ TypedFigure.Millionths z
+typed_read : (t : List ℕ) (z : ℤ) → Typed t z → figure_of t ≡ Some z
 typed_read t z y =
     ap figure_of y.row
     ∙ row_read y.sign y.separator y.whole y.whole-digits y.decimal-digits
@@ -81,7 +79,7 @@ typed_read t z y =
     (y.number ∙ ap (with_sign y.negative) (sym (millionths-value y.whole y.decimals y.whole-digits y.decimal-digits)), y.fits))
 
 -- A text is read as a number of millionths exactly where the grammar gives it that number.
-pub typed_exactly : (t : List ℕ) (z : ℤ) → (figure_of t ≡ TypedFigure.Millionths z) ↔ Typed t z
+pub typed_exactly : (t : List ℕ) (z : ℤ) → (figure_of t ≡ Some z) ↔ Typed t z
 typed_exactly t z = (read_typed t z, typed_read t z)
 
 -- So a text means one figure at most,
@@ -89,22 +87,22 @@ pub one_figure : (t : List ℕ) (y z : ℤ) → Typed t y → Typed t z → y �
 one_figure t y z a b = let e = typed_read t y a in let f = typed_read t z b in cc
 
 -- and what is unread is exactly what is not in the grammar.
-pub unread_exactly : (t : List ℕ) → (figure_of t ≡ TypedFigure.Unread) ↔ ((z : ℤ) → Typed t z → ⊥)
+pub unread_exactly : (t : List ℕ) → (figure_of t ≡ None) ↔ ((z : ℤ) → Typed t z → ⊥)
 unread_exactly t = (λ e z y. clash z (sym (typed_read t z y) ∙ e), λ f. go (figure_of t) refl f)
   where
-    clash : (z : ℤ) → TypedFigure.Millionths z ≡ TypedFigure.Unread → ⊥
+    clash : (z : ℤ) → Some z ≡ None → ⊥
     clash z e = let k : ◌≡◌ {A = ℕ} 0 1 = cc in omega arith
 
-    go : (r : TypedFigure) → figure_of t ≡ r → ((z : ℤ) → Typed t z → ⊥) → r ≡ TypedFigure.Unread
-    go (TypedFigure.Millionths z) e f = absurd (f z (read_typed t z e))
-    go TypedFigure.Unread e f = refl
+    go : (r : Option ℤ) → figure_of t ≡ r → ((z : ℤ) → Typed t z → ⊥) → r ≡ None
+    go (Some z) e f = absurd (f z (read_typed t z e))
+    go None e f = refl
 
 -- What is printed of a number is read as that number.
-pub printed_read : (z : ℤ) → Fits z → figure_of (signed_fixed 6 z) ≡ TypedFigure.Millionths z
+pub printed_read : (z : ℤ) → Fits z → figure_of (signed_fixed 6 z) ≡ Some z
 printed_read (pos n) h = typed_read (signed_fixed 6 (pos n)) (pos n) (printed-typed false n h)
 printed_read (negsuc n) h = typed_read (signed_fixed 6 (negsuc n)) (negsuc n) (printed-typed true (suc n) h)
 
-pub read_printed : (t : List ℕ) → Printed t → (z : ℤ) → figure_of t ≡ TypedFigure.Millionths z → signed_fixed 6 z ≡ t
+pub read_printed : (t : List ℕ) → Printed t → (z : ℤ) → figure_of t ≡ Some z → signed_fixed 6 z ≡ t
 read_printed t p z e =
     let b = p.negative in
     let w = p.whole in

@@ -1,12 +1,10 @@
 -- What is read of a typed figure, by its parts: the sign, what stands before the point or the comma, and what stands behind it.
 -- Assumes nothing.
-use Rattle.std.specs.Prelude.{Bool, ◌&&◌, ◌||◌, cond, List, [], ◌∷◌, ℕ, ◌+◌, ◌-◌, ◌*◌, ◌^◌, eqb, ltb, leb, length}
-use Rattle.signed_numbers.specs.declared.Signed.{Signed}
+use Rattle.std.specs.Prelude.{Bool, ◌&&◌, ◌||◌, cond, List, [], ◌∷◌, ℕ, ◌+◌, ◌-◌, ◌*◌, ◌^◌, eqb, ltb, leb, length, Option, None, ℤ}
 use Rattle.signed_numbers.specs.Signed.{signed_of}
 use Rattle.typed_texts.specs.Texts.{text_before, text_behind, starts_with}
 use Rattle.typed_texts.specs.TextLaws.{has}
 use Rattle.typed_texts.specs.Numbers.{value_of, are_digits}
-use Rattle.typed_figures.specs.declared.TypedFigure.{TypedFigure}
 
 -- a figure's text without its plus (43) or minus (45)
 abbrev pub behind_sign : List ℕ → List ℕ
@@ -26,20 +24,15 @@ are_parts whole decimals =
 abbrev pub millionths_of : List ℕ → List ℕ → ℕ
 millionths_of whole decimals = value_of 10 whole * 10 ^ 6 + value_of 10 decimals * 10 ^ (6 - length decimals)
 
--- a figure of a number that 64 bits hold
-abbrev pub typed : Signed → TypedFigure
-typed (Signed.Number z) = TypedFigure.Millionths z
-typed Signed.TooLarge = TypedFigure.Unread
-
--- what is read of the sign and the parts
-unfoldable pub parts_read : Bool → List ℕ → List ℕ → TypedFigure
+-- what is read of the sign and the parts: a number that 64 bits hold
+unfoldable pub parts_read : Bool → List ℕ → List ℕ → Option ℤ
 parts_read negative whole decimals =
-    cond (are_parts whole decimals) (typed (signed_of negative (millionths_of whole decimals))) TypedFigure.Unread
+    cond (are_parts whole decimals) (signed_of negative (millionths_of whole decimals)) None
 
 -- what is read of a text without its sign
-abbrev pub body_read : Bool → List ℕ → TypedFigure
+abbrev pub body_read : Bool → List ℕ → Option ℤ
 body_read negative t = parts_read negative (text_before (separator_of t) t) (text_behind (separator_of t) t)
 
 -- what is read of a text
-unfoldable pub figure_of : List ℕ → TypedFigure
+unfoldable pub figure_of : List ℕ → Option ℤ
 figure_of t = body_read (starts_with 45 t) (behind_sign t)

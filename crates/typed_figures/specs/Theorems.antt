@@ -2,24 +2,14 @@
 -- Assumes nothing.
 use Rattle.std.proofs.Math.Path.{◌≡◌, refl}
 use Rattle.std.proofs.Common.{sym, ap, ap₂, ◌∙◌, append_assoc, inl, inr, arith}
-use Rattle.std.specs.Prelude.{Bool, List, [], ◌∷◌, ◌++◌, ◌⊎◌, ℕ, zero, suc, ◌+◌, ◌-◌, ◌*◌, ◌/◌, ◌%◌, ◌^◌, ◌<◌, ℤ, length}
+use Rattle.std.specs.Prelude.{Bool, List, [], ◌∷◌, ◌++◌, ◌⊎◌, ℕ, zero, suc, ◌+◌, ◌-◌, ◌*◌, ◌/◌, ◌%◌, ◌^◌, ◌<◌, length}
 use Rattle.std.proofs.Math.Bool.{true, false}
 use Rattle.rounding.specs.Parts.{with_sign}
-use Rattle.signed_numbers.specs.declared.Signed.{Signed}
 use Rattle.signed_numbers.specs.Signed.{Fits}
 use Rattle.numerals.specs.Digits.{padded, decimal, fixed, sign, signed_fixed}
 use Rattle.numerals.specs.Theorems.{Digits, value_from, value, first, decimal-digits, decimal-value, decimal-zero, decimal-leading, padded-digits, padded-value, padded-length}
 use Rattle.numerals.specs.Values.{value_weighs, value-below, padded-of-value, decimal-of-value}
-use Rattle.typed_figures.specs.declared.TypedFigure.{TypedFigure}
-use Rattle.typed_figures.specs.Figures.{typed}
 use Rattle.typed_figures.specs.Grammar.{Sign, none, minus, point, Typed}
-
--- ---- the parts, as numbers
-
--- a number read of the parts is the one that they mean
-pub typed-number : (s : Signed) (z : ℤ) → typed s ≡ TypedFigure.Millionths z → s ≡ Signed.Number z
-typed-number (Signed.Number y) z e = let k : y ≡ z = cc in ap Signed.Number k
-typed-number Signed.TooLarge z e = let k : ◌≡◌ {A = ℕ} 0 1 = cc in absurd (omega arith)
 
 -- ---- what is read is exactly the grammar
 

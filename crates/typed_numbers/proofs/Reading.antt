@@ -1,5 +1,6 @@
 -- A number digit by digit: what is read so far, with the digits that are left behind it, is the whole.
 -- Assumes nothing.
+use Rattle.std.specs.Prelude.{Some, None}
 use mathlib.Core.Path.{◌≡◌, refl, sym, ap, ap₂, ◌∙◌}
 use mathlib.Core.Bool.{Bool, true, false, ◌&&◌, and-false}
 use mathlib.Core.List.{List, [], ◌∷◌}
@@ -97,17 +98,22 @@ module _ (b m : ℕ) (t : List ℕ) (n i d : ℕ) (reads : Reads b m t n i) (h :
 
 -- a digit that does not go behind the others leaves no number
 pub refused : (b m : ℕ) (t : List ℕ) (n i d : ℕ) → Reads b m t n i → i < length t → d ≡ digit_of (get_or t i 0) → goes_behind b m n d ≡ false
-    → numeral false 0 ≡ numeral_of b m t
+    → None ≡ numeral_of b m t
 refused b m [] n i d reads h e g = absurd (omega arith)
 refused b m (c ∷ t) n i d reads h e g =
     ap (λ (x : Bool). numeral x (value_of b (c ∷ t))) (sym (not_read b m (c ∷ t) n i d reads h e g))
 
+-- nothing is no number
+pub no_digits : (b m : ℕ) (t : List ℕ) → length t ≡ 0 → None ≡ numeral_of b m t
+no_digits b m [] e = refl
+no_digits b m (c ∷ t) e = absurd (omega arith)
+
 -- all digits are read
-pub all_read : (b m : ℕ) (t : List ℕ) (n i : ℕ) → Reads b m t n i → length t ≤ i → record { value = n; good = ltb 0 (length t) } ≡ numeral_of b m t
-all_read b m [] n i reads h = ap (λ (x : ℕ). record { value = x; good = false }) (sym (reads.value ∙ ap (value_from b n) (drop_of_length-le [] h)))
-all_read b m (c ∷ t) n i reads h =
+pub all_read : (b m : ℕ) (t : List ℕ) (n i : ℕ) → 0 < length t → Reads b m t n i → length t ≤ i → Some n ≡ numeral_of b m t
+all_read b m [] n i some reads h = absurd (omega arith)
+all_read b m (c ∷ t) n i some reads h =
     let none = drop_of_length-le (c ∷ t) h in
     let value : value_of b (c ∷ t) ≡ n = reads.value ∙ ap (value_from b n) none in
     let digits : are_digits b (c ∷ t) ≡ true = reads.digits ∙ ap (are_digits b) none in
     let all : (are_digits b (c ∷ t) && leb (value_of b (c ∷ t)) m) ≡ true = ap₂ (λ (x : Bool) (y : ℕ). x && leb y m) digits value ∙ le-leb n m reads.small in
-    ap (λ (x : Bool). record { value = n; good = x }) (lt-ltb 0 (suc (length t)) (omega arith)) ∙ sym (ap₂ numeral all value)
+    sym (ap₂ numeral all value)

@@ -5,31 +5,17 @@ ghost use Rattle.std.specs.Prelude.{◌≡◌};
 ghost use Rattle.typed_texts.specs.Texts.{unsigned};
 ghost use Rattle.typed_texts.specs.Numbers.{digit_of, goes_behind, numeral_of};
 
-use typed_texts::Numeral;
-
 // The digit that a byte is in ASCII, or 255 where it is none.
+#[tactic(auto, using(std::proofs::lemmas::Bool::Decides::nat_tests), unfolding(typed_texts::specs::Numbers::digit_of))]
 fn digit_of(byte: u8) -> u64
     ensures { result ≡ digit_of byte }
 {
-    if byte < 48 {
-        return 255;
+    match byte {
+        b'0'..=b'9' => (byte - b'0') as u64,
+        b'A'..=b'F' => (byte - b'A') as u64 + 10,
+        b'a'..=b'f' => (byte - b'a') as u64 + 10,
+        _ => 255,
     }
-    if byte <= 57 {
-        return byte as u64 - 48;
-    }
-    if byte < 65 {
-        return 255;
-    }
-    if byte <= 70 {
-        return byte as u64 - 55;
-    }
-    if byte < 97 {
-        return 255;
-    }
-    if byte <= 102 {
-        return byte as u64 - 87;
-    }
-    255
 }
 
 // Whether a number with this digit behind it is one of the base, and no greater than `most`.
@@ -46,31 +32,26 @@ fn goes_behind(value: u64, digit: u64, base: u64, most: u64) -> bool
 }
 
 // The number that a text of digits is in a base, if it is no greater than `most`.
-pub fn read_number(text: &[u8], base: u8, most: u64) -> Numeral
+pub fn read_number(text: &[u8], base: u8, most: u64) -> Option<u64>
     ensures { result ≡ numeral_of base most text.now }
 {
+    if text.is_empty() {
+        return None;
+    }
     let wide = base as u64;
     let mut value: u64 = 0;
-    let mut i = 0;
-    while i < text.len() {
-        let digit = digit_of(text[i]);
+    for &byte in text {
+        let digit = digit_of(byte);
         if !goes_behind(value, digit, wide, most) {
-            return Numeral {
-                value: 0,
-                good: false,
-            };
+            return None;
         }
         value = value * wide + digit;
-        i += 1;
     }
-    Numeral {
-        value,
-        good: 0 < text.len(),
-    }
+    Some(value)
 }
 
 // The decimal number behind the sign, if there is one.
-pub fn read_size(text: &[u8], most: u64) -> Numeral
+pub fn read_size(text: &[u8], most: u64) -> Option<u64>
     ensures { result ≡ numeral_of 10 most (unsigned text.now) }
 {
     if typed_parts::starts_with(text, b'-') {

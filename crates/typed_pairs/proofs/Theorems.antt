@@ -1,12 +1,10 @@
 -- A line is a pair exactly where a word and a figure are typed in it, and is passed over exactly where it is empty or a comment; a longer line may be cut.
 -- Assumes nothing.
-use Rattle.std.specs.Prelude.{◌≡◌, refl, Bool, true, false, cond, ◌↔◌, List, [], ◌∷◌, ◌++◌, ℕ, zero, suc, ◌^◌, ◌≤◌, ◌<◌, eqb, ltb, ℤ, length, take, get_or}
+use Rattle.std.specs.Prelude.{◌≡◌, refl, Bool, true, false, cond, ◌↔◌, List, [], ◌∷◌, ◌++◌, ℕ, zero, suc, ◌^◌, ◌≤◌, ◌<◌, eqb, ltb, ℤ, length, take, get_or, Option, Some, None}
 use Rattle.std.proofs.Common.{sym, ap, ◌∙◌, inl, inr, arith, eqb-true, ltb-false, lt-ltb, length-append, length-take}
 use Rattle.signed_numbers.specs.Signed.{Fits}
-use Rattle.typed_words.specs.declared.TypedWord.{TypedWord}
 use Rattle.typed_words.specs.Words.{word_of}
 use Rattle.typed_words.proofs.Theorems.{word_exactly, word_within}
-use Rattle.typed_figures.specs.declared.TypedFigure.{TypedFigure}
 use Rattle.typed_figures.specs.Figures.{figure_of}
 use Rattle.typed_figures.proofs.Theorems.{typed_exactly}
 use Rattle.typed_lines.specs.Lines.{skip_blanks, first_part, behind_part, without_return}
@@ -18,12 +16,12 @@ use Rattle.typed_pairs.specs.Lemmas.{pair_content}
 use Rattle.typed_pairs.specs.PairLines.{PairLine, PassedLine}
 use Rattle.typed_pairs.specs.Theorems.{not-passed, no_figure, parts_read_lem, no_comment, without_return_length}
 
-pair_there : (word : TypedWord) (figure : TypedFigure) (rest : List ℕ) (w : ℕ) (z : ℤ) → pair_of word figure rest ≡ TypedLine.Pair w z
-    → (word ≡ TypedWord.Word w) × ((figure ≡ TypedFigure.Millionths z) × (rest ≡ []))
-pair_there (TypedWord.Word v) (TypedFigure.Millionths y) [] w z e = (cc, (cc, refl))
-pair_there (TypedWord.Word v) (TypedFigure.Millionths y) (c ∷ t) w z e = let k : ◌≡◌ {A = ℕ} 0 1 = cc in absurd (omega arith)
-pair_there (TypedWord.Word v) TypedFigure.Unread rest w z e = let k : ◌≡◌ {A = ℕ} 0 1 = cc in absurd (omega arith)
-pair_there TypedWord.Unread figure rest w z e = let k : ◌≡◌ {A = ℕ} 0 1 = cc in absurd (omega arith)
+pair_there : (word : Option ℕ) (figure : Option ℤ) (rest : List ℕ) (w : ℕ) (z : ℤ) → pair_of word figure rest ≡ TypedLine.Pair w z
+    → (word ≡ Some w) × ((figure ≡ Some z) × (rest ≡ []))
+pair_there (Some v) (Some y) [] w z e = (cc, (cc, refl))
+pair_there (Some v) (Some y) (c ∷ t) w z e = let k : ◌≡◌ {A = ℕ} 0 1 = cc in absurd (omega arith)
+pair_there (Some v) None rest w z e = let k : ◌≡◌ {A = ℕ} 0 1 = cc in absurd (omega arith)
+pair_there None figure rest w z e = let k : ◌≡◌ {A = ℕ} 0 1 = cc in absurd (omega arith)
 
 parts-found : (t : List ℕ) (w : ℕ) (z : ℤ) → pair_in t ≡ TypedLine.Pair w z → length t ≤ 200 → PairLine t w z
 unfolding pair_in

@@ -1,9 +1,7 @@
 -- What a line is, by its length, its first byte and its parts.
 -- Assumes nothing.
-use Rattle.std.specs.Prelude.{◌≡◌, refl, Bool, cond, List, [], ◌∷◌, ℕ, ◌≤◌, ◌<◌, ltb, ℤ, length, get_or}
+use Rattle.std.specs.Prelude.{◌≡◌, refl, Bool, cond, List, [], ◌∷◌, ℕ, ◌≤◌, ◌<◌, ltb, ℤ, length, get_or, Option, Some}
 use Rattle.std.proofs.Common.{ap, ap₂, arith, eq-eqb, ne_eqb, lt-ltb, le-ltb}
-use Rattle.typed_words.specs.declared.TypedWord.{TypedWord}
-use Rattle.typed_figures.specs.declared.TypedFigure.{TypedFigure}
 use Rattle.typed_pairs.specs.declared.TypedLine.{TypedLine}
 use Rattle.typed_pairs.specs.Pairs.{pair_of, pair_in, comment_start, longest, content_of}
 
@@ -30,7 +28,7 @@ pair_content (c ∷ t) n e h =
 
 -- ---- the pair, by what stands behind it
 
-pub nothing_behind : (word : TypedWord) (figure : TypedFigure) (rest : List ℕ) (w : ℕ) (z : ℤ) → word ≡ TypedWord.Word w → figure ≡ TypedFigure.Millionths z → length rest ≡ 0
+pub nothing_behind : (word : Option ℕ) (figure : Option ℤ) (rest : List ℕ) (w : ℕ) (z : ℤ) → word ≡ Some w → figure ≡ Some z → length rest ≡ 0
     → pair_of word figure rest ≡ TypedLine.Pair w z
-nothing_behind word figure [] w z e f n = ap₂ (λ (x : TypedWord) (y : TypedFigure). pair_of x y []) e f
+nothing_behind word figure [] w z e f n = ap₂ (λ (x : Option ℕ) (y : Option ℤ). pair_of x y []) e f
 nothing_behind word figure (c ∷ t) w z e f n = absurd (omega arith)

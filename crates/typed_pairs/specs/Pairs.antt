@@ -1,20 +1,18 @@
 -- What a typed line is: passed over, a word and a figure, or unread.
 -- Assumes nothing.
-use Rattle.std.specs.Prelude.{cond, List, [], ◌∷◌, ℕ, eqb, ltb, length}
-use Rattle.typed_words.specs.declared.TypedWord.{TypedWord}
+use Rattle.std.specs.Prelude.{cond, List, [], ◌∷◌, ℕ, eqb, ltb, length, Option, Some, None, ℤ}
 use Rattle.typed_words.specs.Words.{word_of}
-use Rattle.typed_figures.specs.declared.TypedFigure.{TypedFigure}
 use Rattle.typed_figures.specs.Figures.{figure_of}
 use Rattle.typed_lines.specs.Lines.{skip_blanks, first_part, behind_part, without_return}
 use Rattle.typed_lines.specs.TwoParts.{behind_first}
 use Rattle.typed_pairs.specs.declared.TypedLine.{TypedLine}
 
 -- a word and a figure, where both are read and nothing stands behind them
-abbrev pub pair_of : TypedWord → TypedFigure → List ℕ → TypedLine
-pair_of (TypedWord.Word w) (TypedFigure.Millionths z) [] = TypedLine.Pair w z
-pair_of (TypedWord.Word w) (TypedFigure.Millionths z) (c ∷ t) = TypedLine.Unread
-pair_of (TypedWord.Word w) TypedFigure.Unread rest = TypedLine.Unread
-pair_of TypedWord.Unread figure rest = TypedLine.Unread
+abbrev pub pair_of : Option ℕ → Option ℤ → List ℕ → TypedLine
+pair_of (Some w) (Some z) [] = TypedLine.Pair w z
+pair_of (Some w) (Some z) (c ∷ t) = TypedLine.Unread
+pair_of (Some w) None rest = TypedLine.Unread
+pair_of None figure rest = TypedLine.Unread
 
 -- the first part a word, the second a figure, and blanks behind them
 unfoldable pub pair_in : List ℕ → TypedLine

@@ -1,14 +1,12 @@
 -- A line is a pair exactly where a word and a figure are typed in it, and is passed over exactly where it is empty or a comment; a longer line may be cut.
 -- Assumes nothing.
-use Rattle.std.specs.Prelude.{◌≡◌, List, [], ◌∷◌, ◌++◌, ℕ, suc, ◌≤◌, ◌<◌, ℤ, length, get_or}
+use Rattle.std.specs.Prelude.{◌≡◌, List, [], ◌∷◌, ◌++◌, ℕ, suc, ◌≤◌, ◌<◌, ℤ, length, get_or, Option, Some, None}
 use Rattle.std.proofs.Common.{sym, ap, ap₂, ◌∙◌, inl, inr, arith}
 use Rattle.typed_texts.specs.Numbers.{digit_of}
-use Rattle.typed_words.specs.declared.TypedWord.{TypedWord}
 use Rattle.typed_words.specs.Words.{word_of}
 use Rattle.typed_words.specs.Eight.{AreDigits}
 use Rattle.typed_words.proofs.Lemmas.{digit_there}
 use Rattle.typed_words.proofs.Theorems.{word_exactly}
-use Rattle.typed_figures.specs.declared.TypedFigure.{TypedFigure}
 use Rattle.typed_figures.specs.Figures.{parts_read, figure_of}
 use Rattle.typed_figures.proofs.Theorems.{typed_exactly}
 use Rattle.typed_lines.specs.Lines.{skip_blanks, first_part, behind_part, without_return}
@@ -21,18 +19,18 @@ use Rattle.typed_pairs.specs.PairLines.{PairLine}
 
 -- ---- the pair of two parts
 
-pair_not-passed : (word : TypedWord) (figure : TypedFigure) (rest : List ℕ) → pair_of word figure rest ≡ TypedLine.Passed → ⊥
-pair_not-passed (TypedWord.Word v) (TypedFigure.Millionths y) [] e = let k : ◌≡◌ {A = ℕ} 0 1 = cc in absurd (omega arith)
-pair_not-passed (TypedWord.Word v) (TypedFigure.Millionths y) (c ∷ t) e = let k : ◌≡◌ {A = ℕ} 0 1 = cc in absurd (omega arith)
-pair_not-passed (TypedWord.Word v) TypedFigure.Unread rest e = let k : ◌≡◌ {A = ℕ} 0 1 = cc in absurd (omega arith)
-pair_not-passed TypedWord.Unread figure rest e = let k : ◌≡◌ {A = ℕ} 0 1 = cc in absurd (omega arith)
+pair_not-passed : (word : Option ℕ) (figure : Option ℤ) (rest : List ℕ) → pair_of word figure rest ≡ TypedLine.Passed → ⊥
+pair_not-passed (Some v) (Some y) [] e = let k : ◌≡◌ {A = ℕ} 0 1 = cc in absurd (omega arith)
+pair_not-passed (Some v) (Some y) (c ∷ t) e = let k : ◌≡◌ {A = ℕ} 0 1 = cc in absurd (omega arith)
+pair_not-passed (Some v) None rest e = let k : ◌≡◌ {A = ℕ} 0 1 = cc in absurd (omega arith)
+pair_not-passed None figure rest e = let k : ◌≡◌ {A = ℕ} 0 1 = cc in absurd (omega arith)
 
 pub not-passed : (t : List ℕ) → pair_in t ≡ TypedLine.Passed → ⊥
 unfolding pair_in
 not-passed t e = pair_not-passed (word_of (first_part (skip_blanks t))) (figure_of (first_part (behind_first t))) (skip_blanks (behind_part (behind_first t))) e
 
 -- no figure is empty
-pub no_figure : (z : ℤ) → figure_of [] ≡ TypedFigure.Millionths z → ⊥
+pub no_figure : (z : ℤ) → figure_of [] ≡ Some z → ⊥
 unfolding figure_of parts_read
 no_figure z e = let k : ◌≡◌ {A = ℕ} 0 1 = cc in absurd (omega arith)
 
@@ -40,10 +38,10 @@ pub parts_read_lem : (t : List ℕ) (w : ℕ) (z : ℤ) → PairLine t w z → p
 unfolding pair_in
 parts_read_lem t w z p =
     let f = (two_parts t p.word p.figure).1 p.parts in
-    ap₂ (λ (x : TypedWord) (y : TypedFigure). pair_of x y (skip_blanks (behind_part (behind_first t))))
+    ap₂ (λ (x : Option ℕ) (y : Option ℤ). pair_of x y (skip_blanks (behind_part (behind_first t))))
     (ap word_of f.first ∙ (word_exactly p.word w).1 p.eight)
     (ap figure_of f.second ∙ (typed_exactly p.figure z).1 p.typed)
-    ∙ ap (pair_of (TypedWord.Word w) (TypedFigure.Millionths z)) f.nothing_behind
+    ∙ ap (pair_of (Some w) (Some z)) f.nothing_behind
 
 -- ---- the first byte
 

@@ -2,7 +2,7 @@
 #![tactic(auto)]
 
 // What a typed line is.
-#[derive(Clone, Copy)]
+#[derive(Clone, Copy, PartialEq, Eq, Debug)]
 pub enum TypedLine {
     // empty, or a comment: passed over
     Passed,

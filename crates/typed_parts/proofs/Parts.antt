@@ -1,90 +1,66 @@
--- A part of a text by its place: what stands before the first byte is as long as the place of that byte.
+-- A part of a text by the place of a byte: what stands before the first goes up to it, and what stands behind it starts at the next.
 -- Assumes nothing.
 use mathlib.Core.Path.{◌≡◌, refl, sym, ap, ◌∙◌}
-use mathlib.Core.Bool.{Bool, true, false, cond}
+use mathlib.Core.Bool.{Bool, true, false, cond, not}
 use mathlib.Core.List.{List, [], ◌∷◌}
-use Prim.Native.Nat.{ℕ, suc, ◌+◌, ◌-◌, ◌≤◌, ◌<◌}
+use Prim.Native.Nat.{ℕ, suc, ◌+◌, ◌-◌, ◌≤◌}
 use native.Mathlib.Numerals.{add-one}
 use native.Mathlib.Omega.{arith}
-use borrow.Author.Tests.{eq-eqb, ne_eqb}
+use borrow.Author.Tests.{ltb-false}
 use lib.Dec.{eqb}
-use lib.ListN.{length, take, drop, get_or, length-drop, drop_of_length-le}
-use lib.Seq.{drop-cons, take_all}
-use Rattle.typed_texts.specs.Texts.{text_before, text_behind, starts_with}
-use Rattle.typed_texts.specs.TextLaws.{before_within}
+use lib.ListN.{length, take, drop, length-drop, drop_of_length-le}
+use lib.Seq.{take_all}
+use Rattle.std.specs.Prelude.{Some, None, position, nat_lt}
+use Rattle.std.specs.List.{position_or_len}
+use Rattle.typed_texts.specs.Texts.{text_before, text_behind}
 
--- the place of the first x is i, or behind it: what stands before it goes i bytes on
-abbrev pub Passed : ℕ → List ℕ → ℕ → Type 0
-Passed x t i = (i ≤ length t) × (i + length (text_before x (drop i t)) ≡ length (text_before x t))
+-- the place of the first x, or the end
+abbrev pub place : ℕ → List ℕ → ℕ
+place x t = position_or_len (λ c. eqb c x) t
 
-module _ (x : ℕ) (t : List ℕ) (i : ℕ) (passed : Passed x t i) where
-  pub found : i < length t → get_or t i 0 ≡ x → i ≡ length (text_before x t)
-  found h e =
-      let none : length (text_before x (drop i t)) ≡ 0 =
-      ap (λ (r : List ℕ). length (text_before x r)) (drop-cons t i 0 h)
-      ∙ ap (λ (b : Bool). length (cond b [] (get_or t i 0 ∷ text_before x (drop (suc i) t)))) (eq-eqb (get_or t i 0) x e) in
-      omega (arith, passed.1)
-
-  pub further : i < length t → (get_or t i 0 ≡ x → ⊥) → Passed x t (i + 1)
-  further h e =
-      let one : length (text_before x (drop i t)) ≡ suc (length (text_before x (drop (suc i) t))) =
-      ap (λ (r : List ℕ). length (text_before x r)) (drop-cons t i 0 h)
-      ∙ ap (λ (b : Bool). length (cond b [] (get_or t i 0 ∷ text_before x (drop (suc i) t)))) (ne_eqb (get_or t i 0) x e) in
-      let next : length (text_before x (drop (i + 1) t)) ≡ length (text_before x (drop (suc i) t)) = ap (λ (n : ℕ). length (text_before x (drop n t))) (add-one i) in
-      (omega arith, omega (arith, passed.1))
-
-  pub at_end : length t ≤ i → i ≡ length (text_before x t)
-  at_end h =
-      let none : length (text_before x (drop i t)) ≡ 0 = ap (λ (r : List ℕ). length (text_before x r)) (drop_of_length-le t h) in
-      omega (arith, passed.1)
-
--- ---- the parts that the code takes
-
-pub place_within : (x : ℕ) (t : List ℕ) (i : ℕ) → i ≡ length (text_before x t) → i ≤ length t
-place_within x t i e = omega (arith, before_within x t)
-
-pub before_taken : (x : ℕ) (t : List ℕ) → take (length (text_before x t)) t ≡ text_before x t
+before_taken : (x : ℕ) (t : List ℕ) → take (place x t) t ≡ text_before x t
 before_taken x [] = refl
 before_taken x (c ∷ t) = go (eqb c x) (before_taken x t)
   where
-    go : (b : Bool) → take (length (text_before x t)) t ≡ text_before x t → take (length (cond b [] (c ∷ text_before x t))) (c ∷ t) ≡ cond b [] (c ∷ text_before x t)
+    go : (b : Bool) → take (place x t) t ≡ text_before x t → take (cond (not b) (1 + place x t) 0) (c ∷ t) ≡ cond b [] (c ∷ text_before x t)
     go true e = refl
-    go false e = ap (λ (r : List ℕ). c ∷ r) e
+    go false e = let next : 1 + place x t ≡ suc (place x t) = omega arith in ap (λ (n : ℕ). take n (c ∷ t)) next ∙ ap (λ (r : List ℕ). c ∷ r) e
 
-behind_dropped : (x : ℕ) (t : List ℕ) → length (text_before x t) < length t → drop (suc (length (text_before x t))) t ≡ text_behind x t
-behind_dropped x [] h = absurd (omega arith)
-behind_dropped x (c ∷ t) h = go (eqb c x) h (behind_dropped x t)
+behind_dropped : (x : ℕ) (t : List ℕ) → drop (suc (place x t)) t ≡ text_behind x t
+behind_dropped x [] = refl
+behind_dropped x (c ∷ t) = go (eqb c x) (behind_dropped x t)
   where
-    go : (b : Bool) → length (cond b [] (c ∷ text_before x t)) < suc (length t) → (length (text_before x t) < length t → drop (suc (length (text_before x t))) t ≡ text_behind x t)
-        → drop (suc (length (cond b [] (c ∷ text_before x t)))) (c ∷ t) ≡ cond b t (text_behind x t)
-    go true h later = refl
-    go false h later = later (omega arith)
+    go : (b : Bool) → drop (suc (place x t)) t ≡ text_behind x t → drop (cond (not b) (1 + place x t) 0) t ≡ cond b t (text_behind x t)
+    go true e = refl
+    go false e = let next : 1 + place x t ≡ suc (place x t) = omega arith in ap (λ (n : ℕ). drop n t) next ∙ e
 
-nothing_behind : (x : ℕ) (t : List ℕ) → length t ≤ length (text_before x t) → text_behind x t ≡ []
-nothing_behind x [] h = refl
-nothing_behind x (c ∷ t) h = go (eqb c x) h (nothing_behind x t)
-  where
-    go : (b : Bool) → suc (length t) ≤ length (cond b [] (c ∷ text_before x t)) → (length t ≤ length (text_before x t) → text_behind x t ≡ []) → cond b t (text_behind x t) ≡ []
-    go true h later = absurd (omega arith)
-    go false h later = later (omega arith)
+module _ (x : ℕ) (t : List ℕ) where
+  is_place : (i : ℕ) → position (λ c. eqb c x) t ≡ Some i → i ≡ place x t
+  is_place i = go (nat_lt (place x t) (length t))
+    where
+      go : (b : Bool) → cond b (Some (place x t)) None ≡ Some i → i ≡ place x t
+      go true e = cc
+      go false e = cc
+
+  is_end : position (λ c. eqb c x) t ≡ None → length t ≤ place x t
+  is_end = go (nat_lt (place x t) (length t)) refl
+    where
+      go : (b : Bool) → nat_lt (place x t) (length t) ≡ b → cond b (Some (place x t)) None ≡ None → length t ≤ place x t
+      go true h e = cc
+      go false h e = omega (arith, ltb-false)
+
+  pub before_at : (i : ℕ) → position (λ c. eqb c x) t ≡ Some i → take i t ≡ text_before x t
+  before_at i e = rw (is_place i e) (before_taken x t)
+
+  pub all_before : position (λ c. eqb c x) t ≡ None → t ≡ text_before x t
+  all_before e = sym (take_all (place x t) t (is_end e)) ∙ before_taken x t
+
+  pub behind_at : (i : ℕ) → position (λ c. eqb c x) t ≡ Some i → drop (i + 1) t ≡ text_behind x t
+  behind_at i e = ap (λ (n : ℕ). drop n t) (add-one i ∙ ap suc (is_place i e)) ∙ behind_dropped x t
+
+  pub none_behind : position (λ c. eqb c x) t ≡ None → [] ≡ text_behind x t
+  none_behind e = let h = is_end e in sym (drop_of_length-le t (let k : length t ≤ suc (place x t) = omega arith in k)) ∙ behind_dropped x t
 
 -- the rest of a text from a place on
 pub rest : (t : List ℕ) (i : ℕ) → take (length t - i) (drop i t) ≡ drop i t
 rest t i = take_all (length t - i) (drop i t) (omega (arith, length-drop i t))
-
-pub rest_behind : (x : ℕ) (t : List ℕ) (i : ℕ) → i ≡ length (text_before x t) → i < length t → take (length t - (i + 1)) (drop (i + 1) t) ≡ text_behind x t
-rest_behind x t i e h =
-    rest t (i + 1) ∙ ap (λ (n : ℕ). drop n t) (add-one i ∙ ap suc e) ∙ behind_dropped x t (omega arith)
-
-pub rest_empty : (x : ℕ) (t : List ℕ) (i : ℕ) → i ≡ length (text_before x t) → length t ≤ i → take (length t - i) (drop i t) ≡ text_behind x t
-rest_empty x t i e h = rest t i ∙ drop_of_length-le t h ∙ sym (nothing_behind x t (omega arith))
-
--- ---- the first byte
-
-pub starts_empty : (x : ℕ) (t : List ℕ) → length t ≡ 0 → false ≡ starts_with x t
-starts_empty x [] h = refl
-starts_empty x (c ∷ t) h = absurd (omega arith)
-
-pub starts_first : (x : ℕ) (t : List ℕ) → (length t ≡ 0 → ⊥) → eqb (get_or t 0 0) x ≡ starts_with x t
-starts_first x [] h = absurd (h refl)
-starts_first x (c ∷ t) h = refl

@@ -1,6 +1,6 @@
 -- What makes the definitions of `Numbers` believable: each digit weighs a power of the base, and a number that is read is no greater than the greatest.
 -- Assumes nothing.
-use Rattle.std.specs.Prelude.{◌≡◌, refl, Bool, true, false, ◌&&◌, List, [], ◌∷◌, ℕ, ◌+◌, ◌-◌, ◌*◌, ◌≤◌, ◌<◌, leb}
+use Rattle.std.specs.Prelude.{◌≡◌, refl, Bool, true, false, ◌&&◌, List, [], ◌∷◌, ℕ, ◌+◌, ◌-◌, ◌*◌, ◌≤◌, ◌<◌, leb, Some}
 use Rattle.std.proofs.Common.{ap, add-mul, mul_assoc, arith, leb-true, le-ltb, le-leb}
 use Rattle.typed_texts.specs.Numbers.{digit_of, value_of, are_digits, numeral, numeral_of}
 
@@ -13,14 +13,14 @@ weigh base n d p q v e =
     omega arith
 
 -- A number that is read is no greater than the greatest.
-pub read_within : (base most : ℕ) (t : List ℕ) → (numeral_of base most t).value ≤ most
-read_within base most [] = omega arith
-read_within base most (c ∷ t) = go (are_digits base (c ∷ t)) (leb (value_of base (c ∷ t)) most) refl
+pub read_within : (base most : ℕ) (t : List ℕ) (n : ℕ) → Some n ≡ numeral_of base most t → n ≤ most
+read_within base most [] n k = let z : ◌≡◌ {A = ℕ} 0 1 = cc in absurd (omega arith)
+read_within base most (c ∷ t) n k = go (are_digits base (c ∷ t)) (leb (value_of base (c ∷ t)) most) refl k
   where
-    go : (a b : Bool) → leb (value_of base (c ∷ t)) most ≡ b → (numeral (a && b) (value_of base (c ∷ t))).value ≤ most
-    go true true e = leb-true (value_of base (c ∷ t)) most e
-    go true false e = omega arith
-    go false b e = omega arith
+    go : (a b : Bool) → leb (value_of base (c ∷ t)) most ≡ b → Some n ≡ numeral (a && b) (value_of base (c ∷ t)) → n ≤ most
+    go true true e k = let same : n ≡ value_of base (c ∷ t) = cc in omega (arith, leb-true (value_of base (c ∷ t)) most e)
+    go true false e k = let z : ◌≡◌ {A = ℕ} 0 1 = cc in absurd (omega arith)
+    go false b e k = let z : ◌≡◌ {A = ℕ} 0 1 = cc in absurd (omega arith)
 
 -- The decimal digits are the bytes `0` to `9`.
 pub decimal_digit : (c : ℕ) → 48 ≤ c → c < 58 → digit_of c ≡ c - 48

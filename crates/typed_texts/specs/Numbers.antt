@@ -1,7 +1,6 @@
 -- The number that a text of digits is, in a base and up to a greatest one.
 -- Assumes nothing.
-use Rattle.std.specs.Prelude.{Bool, true, false, ◌&&◌, cond, List, [], ◌∷◌, ℕ, ◌+◌, ◌-◌, ◌*◌, ltb, leb}
-use Rattle.typed_texts.specs.declared.Numeral.{Numeral}
+use Rattle.std.specs.Prelude.{Bool, true, ◌&&◌, cond, List, [], ◌∷◌, ℕ, ◌+◌, ◌-◌, ◌*◌, ltb, leb, Option, Some, None}
 
 -- the digit that a byte is: `0` to `9`, then `A` to `F` or `a` to `f`; 255, which is a digit of no base of a byte, for every other
 unfoldable pub digit_of : ℕ → ℕ
@@ -31,11 +30,11 @@ are_digits base (c ∷ t) = ltb (digit_of c) base && are_digits base t
 abbrev pub goes_behind : ℕ → ℕ → ℕ → ℕ → Bool
 goes_behind base most n digit = ltb digit base && leb (n * base + digit) most
 
-abbrev pub numeral : Bool → ℕ → Numeral
-numeral true n = record { value = n; good = true }
-numeral false n = record { value = 0; good = false }
+-- a number where a text passes its tests, else none
+abbrev pub numeral : Bool → ℕ → Option ℕ
+numeral good n = cond good (Some n) None
 
--- good exactly where there is a digit, every byte is one of the base, and the number is no greater than the greatest
-abbrev pub numeral_of : ℕ → ℕ → List ℕ → Numeral
-numeral_of base most [] = numeral false 0
+-- a number exactly where there is a digit, every byte is one of the base, and the number is no greater than the greatest
+abbrev pub numeral_of : ℕ → ℕ → List ℕ → Option ℕ
+numeral_of base most [] = None
 numeral_of base most (c ∷ t) = numeral (are_digits base (c ∷ t) && leb (value_of base (c ∷ t)) most) (value_of base (c ∷ t))

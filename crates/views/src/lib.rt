@@ -8,7 +8,7 @@ use records::{AzimuthCount, Body, CourseCount, GlideCount, MlsCount};
 use statuses::Status;
 
 // What was selected, or sent as the greatest, by hand or not where the word tells it.
-#[derive(Clone, Copy)]
+#[derive(Clone, Copy, PartialEq, Eq, Debug)]
 pub enum Setting {
     // 153, in degrees
     SelectedAzimuth { manual: bool, degrees: u16 },
@@ -19,7 +19,7 @@ pub enum Setting {
 }
 
 // What a word with a status holds: a count of one of the five measured quantities, a frequency in tens of kHz, or a setting.
-#[derive(Clone, Copy)]
+#[derive(Clone, Copy, PartialEq, Eq, Debug)]
 pub enum Value {
     Azimuth(AzimuthCount),
     Course(CourseCount),
@@ -31,7 +31,7 @@ pub enum Value {
 }
 
 // A record without its source and the flags that only its own kind has.
-#[derive(Clone, Copy)]
+#[derive(Clone, Copy, PartialEq, Eq, Debug)]
 pub enum View {
     Value(Status, Value),
     // a part of the MLS auxiliary data, 1 to 4, and its 16 bits
@@ -42,12 +42,7 @@ pub enum View {
 pub fn is_shown(status: Status) -> bool
     ensures { result ≡ is_shown status }
 {
-    match status {
-        Status::Failure => false,
-        Status::NoData => false,
-        Status::Test => true,
-        Status::Ready => true,
-    }
+    matches!(status, Status::Test | Status::Ready)
 }
 
 // The status and the value of a record's body, or its part.

@@ -1,6 +1,6 @@
 -- What is left of a walk: the fields still to come, and how a step tells of them.
 -- Assumes nothing.
-use Rattle.std.specs.Prelude.{◌≡◌, refl, Bool, true, false, cond, ltb}
+use Rattle.std.specs.Prelude.{◌≡◌, refl, Bool, true, false, cond, ltb, Result, Ok, Err, Option, Some, None}
 use Rattle.std.proofs.Common.{sym, ◌∙◌, le_refl, ltb-true, ltb-false, length-take, length-drop, drop-drop}
 use Rattle.std.proofs.Math.Path.{ap, ap₂}
 use mathlib.Core.List.{List, [], ◌∷◌}
@@ -9,14 +9,12 @@ use native.Mathlib.Omega.{arith}
 use Rattle.std.proofs.Math.ListN.{length, take, drop}
 use Rattle.refusals.specs.declared.Refusal.{Refusal}
 use Rattle.fields.specs.declared.FieldKind.{FieldKind}
-use Rattle.fields.specs.declared.Start.{Start}
 use Rattle.fields.specs.Start.{start_of}
 use Rattle.fields.specs.Run.{Field, Scan, Fields, Refused, ◌and_then◌, inside, step, run_of, sheet_limit, sheet_of}
 use Rattle.fields.proofs.Laws.{run_step, whole-field, end_empty}
 use Rattle.fields.proofs.Limits.{not_longer}
 use Rattle.fields.specs.AndThenLemmas.{nothing-first, regroup}
 use Rattle.walk.specs.declared.Position.{Position}
-use Rattle.walk.specs.declared.Walk.{Walk}
 use Rattle.walk.specs.Step.{at_start, walk_of, start_walk, level_by, entered, passed, next_of, given_at, step_at, step_of}
 use Rattle.walk.specs.WithinLemmas.{drop-take}
 use Rattle.walk.proofs.WithinLemmas.{within}
@@ -24,7 +22,7 @@ use Rattle.walk.specs.Rest.{level, depth1, depth2, depth3, remaining, rest_of, f
 
 module _ (s : List ℕ) (d e : ℕ) (after : ℕ → Scan) (p : ℕ) where
   -- a field, its inside, and the rest of the run after it
-  level-field : (k : FieldKind) (n : ℕ) → start_of d (drop p (take e s)) ≡ Start.Field k n
+  level-field : (k : FieldKind) (n : ℕ) → start_of d (drop p (take e s)) ≡ Ok (Some (k, n))
       → level s d e after p
       ≡ Fields (field_of s (record { place = p; depth = d; kind = k; length = n }) ∷ [])
       and_then (inside run_of k d p (drop (p + 3) (take (p + 3 + n) s)) and_then level s d e after (p + 3 + n))
@@ -63,16 +61,16 @@ module _ (s : List ℕ) (w : Position) (d e : ℕ) (after : ℕ → Scan)
     (into : d < 4 → (q end : ℕ) → w.place ≤ q → remaining s (entered w d q end) ≡ level s (suc d) end (level s d e after) q)
     (more : min e (length s) ≤ w.place → length s ≤ w.place)
   where
-    at_level : (t : Start) → start_of d (drop w.place (take e s)) ≡ t → remaining s w ≡ told s (given_at w d t).given (given_at w d t).next
-    at_level Start.End h =
+    at_level : (t : Result (Option (FieldKind × ℕ)) Refusal) → start_of d (drop w.place (take e s)) ≡ t → remaining s w ≡ told s (given_at w d t).given (given_at w d t).next
+    at_level (Ok None) h =
         let none : length (drop w.place (take e s)) ≡ 0 = ap length (end_empty d (drop w.place (take e s)) h) in
         let left : length (drop w.place (take e s)) ≡ length (take e s) - w.place = length-drop w.place (take e s) in
         let part : length (take e s) ≡ min e (length s) = length-take e s in
         past_all s w (more (omega arith))
-    at_level (Start.Refused f) h = past w.place (le_refl _) ∙ level-refused s d e after w.place f h
-    at_level (Start.Field k n) h = past w.place (le_refl _) ∙ level-field s d e after w.place k n h ∙ ap (λ (r : Scan). Fields (field_of s (record { place = w.place; depth = d; kind = k; length = n }) ∷ []) and_then r) (follows k h)
+    at_level (Err f) h = past w.place (le_refl _) ∙ level-refused s d e after w.place f h
+    at_level (Ok (Some (k, n))) h = past w.place (le_refl _) ∙ level-field s d e after w.place k n h ∙ ap (λ (r : Scan). Fields (field_of s (record { place = w.place; depth = d; kind = k; length = n }) ∷ []) and_then r) (follows k h)
       where
-        follows : (j : FieldKind) → start_of d (drop w.place (take e s)) ≡ Start.Field j n
+        follows : (j : FieldKind) → start_of d (drop w.place (take e s)) ≡ Ok (Some (j, n))
             → inside run_of j d w.place (drop (w.place + 3) (take (w.place + 3 + n) s)) and_then level s d e after (w.place + 3 + n)
             ≡ remaining s (next_of w d j (w.place + 3) (w.place + 3 + n))
         follows FieldKind.Word g = nothing-first _ ∙ sym (past (w.place + 3 + n) (omega arith))
@@ -83,9 +81,9 @@ module _ (s : List ℕ) (w : Position) (d e : ℕ) (after : ℕ → Scan)
             ∙ sym (into (ltb-true d 4 (whole-field d (drop w.place (take e s)) FieldKind.Group n g).deep) (w.place + 3) (w.place + 3 + n) (omega arith))
 
 -- What is left of a walk is what its step gives, then what is left after that.
-pub step_rest : (s : List ℕ) (w : Walk) → rest_of s w ≡ told s (step_of s w).given (step_of s w).next
-step_rest s (Walk.Refused f p) = refl
-step_rest s (Walk.At w) = by (ltb w.place w.end3) refl (ltb w.place w.end2) refl (ltb w.place w.end1) refl
+pub step_rest : (s : List ℕ) (w : Result Position (Refusal × ℕ)) → rest_of s w ≡ told s (step_of s w).given (step_of s w).next
+step_rest s (Err (f, p)) = refl
+step_rest s (Ok w) = by (ltb w.place w.end3) refl (ltb w.place w.end2) refl (ltb w.place w.end1) refl
   where
     by : (a : Bool) → ltb w.place w.end3 ≡ a → (b : Bool) → ltb w.place w.end2 ≡ b → (c : Bool) → ltb w.place w.end1 ≡ c
         → remaining s w ≡ told s (step_at s w (level_by a b c w (length s))).given (step_at s w (level_by a b c w (length s))).next
@@ -115,7 +113,7 @@ step_rest s (Walk.At w) = by (ltb w.place w.end3) refl (ltb w.place w.end2) refl
         ∙ level-ended s 3 w.end2 (level s 2 end (depth1 s)) q (omega arith)) (λ h. omega arith) _ refl
 
 -- From its first byte a sheet that is not too long is left, be it legal or not.
-pub first_rest : (s : List ℕ) → length s ≤ 32768 → rest_of s (Walk.At at_start) ≡ sheet_of s
+pub first_rest : (s : List ℕ) → length s ≤ 32768 → rest_of s (Ok at_start) ≡ sheet_of s
 first_rest s h = whole s ∙ sym (not_longer s h)
 
 -- From its start the whole sheet is left.

@@ -1,14 +1,13 @@
 -- The part of a sheet up to an end: where the sheet is shorter, and that a field that stands in it ends within it, with its content.
 -- Assumes nothing.
-use Rattle.std.specs.Prelude.{◌≡◌, List, ℕ, ◌+◌, ◌-◌, ◌≤◌, min, length, take, drop}
+use Rattle.std.specs.Prelude.{◌≡◌, List, ℕ, ◌+◌, ◌-◌, ◌≤◌, min, length, take, drop, Some, Ok}
 use Rattle.std.proofs.Common.{sym, ap, ◌∙◌, arith, length-take, length-drop, take-take, drop-drop}
 use Rattle.fields.specs.declared.FieldKind.{FieldKind}
-use Rattle.fields.specs.declared.Start.{Start}
 use Rattle.fields.specs.Start.{start_of}
 use Rattle.fields.proofs.Laws.{whole-field}
 use Rattle.walk.specs.WithinLemmas.{drop-take, Within}
 
-pub within : (d p e : ℕ) (s : List ℕ) (k : FieldKind) (n : ℕ) → start_of d (drop p (take e s)) ≡ Start.Field k n → Within s p e n
+pub within : (d p e : ℕ) (s : List ℕ) (k : FieldKind) (n : ℕ) → start_of d (drop p (take e s)) ≡ Ok (Some (k, n)) → Within s p e n
 within d p e s k n h =
     let room : 3 + n ≤ length (drop p (take e s)) = (whole-field d (drop p (take e s)) k n h).room in
     let left : length (drop p (take e s)) ≡ length (take e s) - p = length-drop p (take e s) in

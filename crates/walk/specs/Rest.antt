@@ -1,6 +1,6 @@
 -- What is left of a walk: the fields still to come, and how a step tells of them.
 -- Assumes nothing.
-use Rattle.std.specs.Prelude.{◌≡◌}
+use Rattle.std.specs.Prelude.{◌≡◌, Result, Ok, Err, Option, Some, None}
 use Rattle.std.proofs.Common.{◌∙◌, length-take, drop_of_length-le}
 use Rattle.std.proofs.Math.Path.{ap}
 use mathlib.Core.List.{List, [], ◌∷◌}
@@ -9,15 +9,12 @@ use native.Mathlib.Omega.{arith}
 use Rattle.std.proofs.Math.ListN.{length, take, drop}
 use Rattle.std.proofs.Math.Seq.{take-length}
 use Rattle.refusals.specs.declared.Refusal.{Refusal}
-use Rattle.fields.specs.declared.Start.{Start}
 use Rattle.fields.specs.Start.{start_of}
 use Rattle.fields.specs.Run.{Field, Scan, Fields, Refused, ◌and_then◌, step, scan, run_of}
 use Rattle.fields.proofs.Laws.{run_step}
 use Rattle.fields.specs.AndThenLemmas.{nothing-first, nothing-after}
 use Rattle.walk.specs.declared.Position.{Position}
-use Rattle.walk.specs.declared.Walk.{Walk}
 use Rattle.walk.specs.declared.FieldAt.{FieldAt}
-use Rattle.walk.specs.declared.Given.{Given}
 use Rattle.walk.specs.Step.{at_start}
 
 -- the rest of a run from a place to its end, then what follows it
@@ -38,19 +35,19 @@ abbrev pub remaining : List ℕ → Position → Scan
 remaining s w = level s 4 w.end3 (depth3 s w) w.place
 
 -- what is left of a walk
-abbrev pub rest_of : List ℕ → Walk → Scan
-rest_of s (Walk.At w) = remaining s w
-rest_of s (Walk.Refused f p) = Refused f p
+abbrev pub rest_of : List ℕ → Result Position (Refusal × ℕ) → Scan
+rest_of s (Ok w) = remaining s w
+rest_of s (Err (f, p)) = Refused f p
 
 -- the field that a step gives, with its content: the sheet's bytes from 3 past its place on
 abbrev pub field_of : List ℕ → FieldAt → Field
 field_of s a = record { place = a.place; depth = a.depth; kind = a.kind; content = take a.length (drop (a.place + 3) s) }
 
 -- what a step tells of the rest: the field that it gives and what is left after it, the refusal, or nothing
-abbrev pub told : List ℕ → Given → Walk → Scan
-told s (Given.Field a) w = Fields (field_of s a ∷ []) and_then rest_of s w
-told s (Given.Refused f p) w = Refused f p
-told s Given.End w = Fields []
+abbrev pub told : List ℕ → Result (Option FieldAt) (Refusal × ℕ) → Result Position (Refusal × ℕ) → Scan
+told s (Ok (Some a)) w = Fields (field_of s a ∷ []) and_then rest_of s w
+told s (Err (f, p)) w = Refused f p
+told s (Ok None) w = Fields []
 
 -- ---- the rest of one run
 
@@ -76,7 +73,7 @@ module _ (s : List ℕ) (d e : ℕ) (after : ℕ → Scan) (p : ℕ) where
       let part : length (take e s) ≡ min e (length s) = length-take e s in
       level_empty (drop_of_length-le (take e s) {i = p} (omega arith))
 
-  pub level-refused : (f : Refusal) → start_of d (drop p (take e s)) ≡ Start.Refused f → level s d e after p ≡ Refused f p
+  pub level-refused : (f : Refusal) → start_of d (drop p (take e s)) ≡ Err f → level s d e after p ≡ Refused f p
   unfolding level
   level-refused f h =
       ap (λ (r : Scan). r and_then after (max p e)) (run_step d p (drop p (take e s)) ∙ ap (step run_of d p (drop p (take e s))) h)

@@ -1,31 +1,30 @@
 -- Walking a sheet: from the start it gives the sheet's own refusal, or each field, in the order of the tags, with place and depth, and then the end.
 -- Assumes nothing.
-use Rattle.std.specs.Prelude.{◌≡◌, refl, ℕ, zero, suc, ◌+◌, ◌-◌, ◌≤◌, ◌<◌, length, take, drop}
+use Rattle.std.specs.Prelude.{◌≡◌, refl, ℕ, zero, suc, ◌+◌, ◌-◌, ◌≤◌, ◌<◌, length, take, drop, Result, Ok, Err, Option, Some, None}
 use mathlib.Core.List.Memᴰ
 use mathlib.Core.List.{List, [], ◌∷◌}
-use Rattle.fields.specs.declared.Start.{Start}
+use Rattle.fields.specs.declared.FieldKind.{FieldKind}
 use Rattle.fields.specs.Start.{start_of}
 use Rattle.fields.specs.Run.{Field, Fields, Refused}
 use Rattle.walk.specs.declared.Position.{Position}
-use Rattle.walk.specs.declared.Walk.{Walk}
+use Rattle.refusals.specs.declared.Refusal.{Refusal}
 use Rattle.walk.specs.declared.FieldAt.{FieldAt}
-use Rattle.walk.specs.declared.Given.{Given}
 use Rattle.walk.specs.Step.{level_of, given_at, step_of}
 use Rattle.walk.specs.Stands.{Stands, left}
 
 -- the first answers of a walk
-abbrev pub walked : ℕ → List ℕ → Walk → List Given
+abbrev pub walked : ℕ → List ℕ → Result Position (Refusal × ℕ) → List (Result (Option FieldAt) (Refusal × ℕ))
 walked zero s w = []
 walked (suc n) s w = (step_of s w).given ∷ walked n s (step_of s w).next
 
 -- the walk after so many steps
-abbrev pub after : ℕ → List ℕ → Walk → Walk
+abbrev pub after : ℕ → List ℕ → Result Position (Refusal × ℕ) → Result Position (Refusal × ℕ)
 after zero s w = w
 after (suc n) s w = after n s (step_of s w).next
 
 -- a field as a step gives it: place, depth and kind, with the length of its content
-abbrev pub given_of : Field → Given
-given_of f = Given.Field (record { place = f.place; depth = f.depth; kind = f.kind; length = length f.content })
+abbrev pub given_of : Field → Result (Option FieldAt) (Refusal × ℕ)
+given_of f = Ok (Some (record { place = f.place; depth = f.depth; kind = f.kind; length = length f.content }))
 
 -- ---- one step, by what is ahead
 
@@ -35,7 +34,7 @@ pub record InSheet (s : List ℕ) (f : Field) : Type 0 where
   pub content : f.content ≡ take (length f.content) (drop (f.place + 3) s)
 
 -- with fields ahead, a step gives the first and leaves the others
-pub record Steps (s : List ℕ) (w : Walk) (f : Field) (fs : List Field) : Type 0 where
+pub record Steps (s : List ℕ) (w : Result Position (Refusal × ℕ)) (f : Field) (fs : List Field) : Type 0 where
   pub given : (step_of s w).given ≡ given_of f
   pub next : Stands s (step_of s w).next (Fields fs)
   pub in_sheet : InSheet s f
@@ -43,14 +42,14 @@ pub record Steps (s : List ℕ) (w : Walk) (f : Field) (fs : List Field) : Type 
   pub less : left s (step_of s w).next < left s w
 
 -- where a step gives no field, the walk stays
-stays_at : (w : Position) (d : ℕ) (t : Start) → ((a : FieldAt) → (given_at w d t).given ≡ Given.Field a → ⊥) → (given_at w d t).next ≡ Walk.At w
-stays_at w d Start.End none = refl
-stays_at w d (Start.Refused f) none = refl
-stays_at w d (Start.Field k n) none = absurd (none _ refl)
+stays_at : (w : Position) (d : ℕ) (t : Result (Option (FieldKind × ℕ)) Refusal) → ((a : FieldAt) → (given_at w d t).given ≡ Ok (Some a) → ⊥) → (given_at w d t).next ≡ Ok w
+stays_at w d (Ok None) none = refl
+stays_at w d (Err f) none = refl
+stays_at w d (Ok (Some (k, n))) none = absurd (none _ refl)
 
-pub stays : (s : List ℕ) (w : Walk) → ((a : FieldAt) → (step_of s w).given ≡ Given.Field a → ⊥) → (step_of s w).next ≡ w
-stays s (Walk.Refused f p) none = refl
-stays s (Walk.At w) none = let l = level_of w (length s) in stays_at w l.depth (start_of l.depth (drop w.place (take l.end s))) none
+pub stays : (s : List ℕ) (w : Result Position (Refusal × ℕ)) → ((a : FieldAt) → (step_of s w).given ≡ Ok (Some a) → ⊥) → (step_of s w).next ≡ w
+stays s (Err (f, p)) none = refl
+stays s (Ok w) none = let l = level_of w (length s) in stays_at w l.depth (start_of l.depth (drop w.place (take l.end s))) none
 
 -- ---- whole walks
 

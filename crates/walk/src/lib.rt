@@ -5,7 +5,7 @@ use fields::FieldKind;
 use refusals::Refusal;
 
 // Where a walk stands: the offset of the next field's tag, and the ends of the groups at depth 1, 2 and 3 that were entered last. Only an end past the place counts.
-#[derive(Clone, Copy)]
+#[derive(Clone, Copy, PartialEq, Eq, Debug)]
 pub struct Position {
     pub place: usize,
     pub end1: usize,
@@ -14,23 +14,14 @@ pub struct Position {
 }
 
 // The innermost run that a place lies in.
-#[derive(Clone, Copy)]
+#[derive(Clone, Copy, PartialEq, Eq, Debug)]
 pub struct Level {
     pub depth: u8,
     pub end: usize,
 }
 
-// A walk over a sheet.
-#[derive(Clone, Copy)]
-pub enum Walk {
-    // It stands at a place of a legal sheet.
-    At(Position),
-    // The sheet is refused: number 9, 10, 11, 12 or 15 of document 01, with the offset of the field's tag.
-    Refused(Refusal, usize),
-}
-
 // A field of a sheet: the offset of its tag, its depth, what it holds, and the length of its content, which starts 3 bytes after the tag.
-#[derive(Clone, Copy)]
+#[derive(Clone, Copy, PartialEq, Eq, Debug)]
 pub struct FieldAt {
     pub place: usize,
     pub depth: u8,
@@ -38,20 +29,9 @@ pub struct FieldAt {
     pub length: usize,
 }
 
-// What one step of a walk gives.
-#[derive(Clone, Copy)]
-pub enum Given {
-    // The next field.
-    Field(FieldAt),
-    // The sheet's own refusal.
-    Refused(Refusal, usize),
-    // No field is left.
-    End,
-}
-
 // What a step gives, and the walk after it.
-#[derive(Clone, Copy)]
+#[derive(Clone, Copy, PartialEq, Eq, Debug)]
 pub struct WalkStep {
-    pub given: Given,
-    pub next: Walk,
+    pub given: Result<Option<FieldAt>, (Refusal, usize)>,
+    pub next: Result<Position, (Refusal, usize)>,
 }

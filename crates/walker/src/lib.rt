@@ -1,27 +1,25 @@
 // Walking a sheet field by field.
 #![tactic(auto)]
 
-ghost use Rattle.std.specs.Prelude.{◌≡◌, ℕ, ◌+◌, ◌<◌, min};
+ghost use Rattle.std.specs.Prelude.{◌≡◌, ℕ, ◌+◌, ◌<◌};
 ghost use Rattle.walk.specs.Step.{start_walk, entered, next_of, given_at, step_at};
 ghost use Rattle.walk.specs.Step.{level_of, step_of};
 
-use fields::{FieldKind, Start};
-use sheet::Checked;
-use walk::{FieldAt, Given, Level, Position, Walk, WalkStep};
+use fields::FieldKind;
+use refusals::Refusal;
+use walk::{FieldAt, Level, Position, WalkStep};
 
 // The walk over a sheet from its first field.
-pub fn start(sheet: &[u8]) -> Walk
+pub fn start(sheet: &[u8]) -> Result<Position, (Refusal, usize)>
     ensures { result ≡ start_walk sheet.now }
 {
-    match sheet::check_sheet(sheet) {
-        Checked::Legal => Walk::At(Position {
-            place: 0,
-            end1: 0,
-            end2: 0,
-            end3: 0,
-        }),
-        Checked::Refused(refusal, offset) => Walk::Refused(refusal, offset),
-    }
+    sheet::check_sheet(sheet)?;
+    Ok(Position {
+        place: 0,
+        end1: 0,
+        end2: 0,
+        end3: 0,
+    })
 }
 
 // The innermost run that a position lies in, in a sheet of this length.
@@ -50,13 +48,6 @@ fn level_of(position: Position, sheet: usize) -> Level
         depth: 1,
         end: sheet,
     }
-}
-
-// The lesser of two offsets.
-fn lesser(a: usize, b: usize) -> usize
-    ensures { result ≡ min a b }
-{
-    if a < b { a } else { b }
 }
 
 // Into a group at a depth, whose content has this start and end.
@@ -92,31 +83,35 @@ fn next_of(position: Position, depth: u8, kind: FieldKind, from: usize, end: usi
 }
 
 // What is given where the field, the end or the refusal `found` stands.
-fn given_at(position: Position, depth: u8, found: Start) -> WalkStep
-    requires { (k : FieldKind) (n : ℕ) → found ≡ Start.Field k n → position.place + 3 + n < 0x10000000000000000 }
+fn given_at(
+    position: Position,
+    depth: u8,
+    found: Result<Option<(FieldKind, usize)>, Refusal>,
+) -> WalkStep
+    requires { (k : FieldKind) (n : ℕ) → found ≡ Ok (Some (k, n)) → position.place + 3 + n < 0x10000000000000000 }
     ensures { result ≡ given_at position depth found }
 {
     let place = position.place;
     match found {
-        Start::End => WalkStep {
-            given: Given::End,
-            next: Walk::At(position),
+        Ok(None) => WalkStep {
+            given: Ok(None),
+            next: Ok(position),
         },
-        Start::Refused(refusal) => WalkStep {
-            given: Given::Refused(refusal, place),
-            next: Walk::At(position),
+        Err(refusal) => WalkStep {
+            given: Err((refusal, place)),
+            next: Ok(position),
         },
-        Start::Field(kind, length) => {
+        Ok(Some((kind, length))) => {
             let from = place + 3;
             let end = from + length;
             WalkStep {
-                given: Given::Field(FieldAt {
+                given: Ok(Some(FieldAt {
                     place,
                     depth,
                     kind,
                     length,
-                }),
-                next: Walk::At(next_of(position, depth, kind, from, end)),
+                })),
+                next: Ok(next_of(position, depth, kind, from, end)),
             }
         }
     }
@@ -126,7 +121,7 @@ fn given_at(position: Position, depth: u8, found: Start) -> WalkStep
 fn step_at(sheet: &[u8], position: Position, level: Level) -> WalkStep
     ensures { result ≡ step_at sheet.now position level }
 {
-    let end = lesser(level.end, sheet.len());
+    let end = level.end.min(sheet.len());
     let place = position.place;
     let depth = level.depth;
     given_at(
@@ -137,14 +132,14 @@ fn step_at(sheet: &[u8], position: Position, level: Level) -> WalkStep
 }
 
 // One step of a walk: the next field, the sheet's refusal, or the end. After the refusal or the end it gives the same again.
-pub fn step(sheet: &[u8], walk: Walk) -> WalkStep
+pub fn step(sheet: &[u8], walk: Result<Position, (Refusal, usize)>) -> WalkStep
     ensures { result ≡ step_of sheet.now walk }
 {
     match walk {
-        Walk::At(position) => step_at(sheet, position, level_of(position, sheet.len())),
-        Walk::Refused(refusal, offset) => WalkStep {
-            given: Given::Refused(refusal, offset),
-            next: Walk::Refused(refusal, offset),
+        Ok(position) => step_at(sheet, position, level_of(position, sheet.len())),
+        Err((refusal, offset)) => WalkStep {
+            given: Err((refusal, offset)),
+            next: Err((refusal, offset)),
         },
     }
 }

@@ -5,7 +5,6 @@ ghost use Rattle.std.specs.Prelude.{cond, ◌≡◌, eqb};
 ghost use Rattle.pages.specs.Page.{answer_of};
 ghost use Rattle.word_rows.specs.Asking.{is_listed, plain_judgement, judgement_by, count_by, clear_answer, known_answer, unknown_answer};
 
-use decode::Judgement;
 use frequencies::Band;
 use pages::Answer;
 use refusals::Refusal;
@@ -33,15 +32,15 @@ fn either_count(flag: u32, first: i16, second: i16) -> i16
 }
 
 // Whether a word that is no frequency keeps the row's rules, or the first that it breaks: its code, its greatest setting, its angle's parity. Each is kept by the words of a kind that has it not.
-fn plain_judgement(asked: Asked, word: u32) -> Judgement
+fn plain_judgement(asked: Asked, word: u32) -> Result<(), Refusal>
     ensures { result ≡ plain_judgement asked word }
 {
     if !is_listed(asked, word) {
-        return Judgement::Broken(Refusal::Code);
+        return Err(Refusal::Code);
     }
     let setting = word / 524288 % 512;
     if either_number(asked.limited, 359, 511) < setting {
-        return Judgement::Broken(Refusal::Value);
+        return Err(Refusal::Value);
     }
     judgements::kept_if(
         bits::is_odd(either_number(asked.angle, setting, 1)),
@@ -50,7 +49,7 @@ fn plain_judgement(asked: Asked, word: u32) -> Judgement
 }
 
 // Whether a word of the row's kind keeps the kind's rules, or the first that it breaks.
-fn judgement_by(asked: Asked, word: u32) -> Judgement
+fn judgement_by(asked: Asked, word: u32) -> Result<(), Refusal>
     ensures { result ≡ judgement_by asked word }
 {
     let band = asked.band;
@@ -66,8 +65,8 @@ fn judgement_by(asked: Asked, word: u32) -> Judgement
 fn count_by(asked: Asked, word: u32) -> i16
     ensures { result ≡ count_by asked word }
 {
-    let long = either_count(asked.long, bits::signed_14_29(word), 0);
-    either_count(asked.short, bits::signed_17_29(word), long)
+    let long = either_count(asked.long, bits::signed_field::<16>(word), 0);
+    either_count(asked.short, bits::signed_field::<13>(word), long)
 }
 
 // The answer to a word of the row's kind whose parity is right and whose zero bits are zero.
@@ -75,11 +74,11 @@ fn clear_answer(asked: Asked, word: u32) -> Answer
     ensures { result ≡ clear_answer asked word }
 {
     match judgement_by(asked, word) {
-        Judgement::Kept => Answer {
+        Ok(()) => Answer {
             refusal: 0,
             count: count_by(asked, word),
         },
-        Judgement::Broken(refusal) => Answer {
+        Err(refusal) => Answer {
             refusal: refusals::number(refusal),
             count: 0,
         },

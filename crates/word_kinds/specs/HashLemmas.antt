@@ -1,6 +1,6 @@
 -- How the code finds the kind of a word: by a hash of its lowest byte and one comparison of labels, which finds the kind that the word's label stands for (`kind_hit`, `kind_miss`).
 -- Assumes nothing.
-use Rattle.std.specs.Prelude.{◌≡◌, refl, List, [], ◌∷◌, ℕ, ◌*◌, ◌/◌, ◌%◌, get_or}
+use Rattle.std.specs.Prelude.{◌≡◌, refl, List, [], ◌∷◌, ℕ, ◌*◌, ◌/◌, ◌%◌, get_or, Option, Some, None}
 use Rattle.std.proofs.Common.{sym, ap, ◌∙◌, div-one}
 use Rattle.bits.specs.Fields.{bits}
 use Rattle.records.specs.All.{kinds, agree}
@@ -11,8 +11,6 @@ use Rattle.labels.proofs.LabelLaws.{label_byte}
 use Rattle.labels.specs.Table.{label_number, byte_of, rows, find_kind, only}
 use Rattle.labels.proofs.Table.{found}
 use Rattle.word_kinds.specs.declared.KindLabel.{KindLabel}
-use Rattle.labels.specs.declared.Lookup.{Lookup}
-use Rattle.labels.specs.declared.Lookup.TheVariants.{Known, Unknown}
 
 -- the kind whose byte has each hash, from 0 to 15; no kind's has 7, where part 4 stands again
 abbrev pub hashed : List Kind
@@ -39,19 +37,19 @@ low_byte w = ap (λ (x : ℕ). x % 256) (div-one w)
 
 module _ (w : ℕ) (c : KindLabel) (told : c ≡ candidate_of (w % 256)) where
   -- a word with the label of its candidate is of that kind
-  pub kind_hit : c.1 ≡ label_of w → Known c.0 ≡ find_kind rows (label_of w)
+  pub kind_hit : c.1 ≡ label_of w → Some c.0 ≡ find_kind rows (label_of w)
   kind_hit e =
       let k = (candidate_of (w % 256)).0 in
       let l : label_number k ≡ label_of w = ap (λ (x : KindLabel). x.1) (sym told) ∙ e in
-      ap (λ (x : KindLabel). Known x.0) told ∙ sym (found k) ∙ ap (find_kind rows) l
+      ap (λ (x : KindLabel). Some x.0) told ∙ sym (found k) ∙ ap (find_kind rows) l
 
   -- and one with another label is of no kind
-  pub kind_miss : (c.1 ≡ label_of w → ⊥) → Unknown ≡ find_kind rows (label_of w)
+  pub kind_miss : (c.1 ≡ label_of w → ⊥) → None ≡ find_kind rows (label_of w)
   kind_miss n = by (find_kind rows (label_of w)) refl
     where
-      by : (l : Lookup) → find_kind rows (label_of w) ≡ l → Unknown ≡ find_kind rows (label_of w)
-      by Unknown e = sym e
-      by (Known k) e =
+      by : (l : Option Kind) → find_kind rows (label_of w) ≡ l → None ≡ find_kind rows (label_of w)
+      by None e = sym e
+      by (Some k) e =
           let l : label_number k ≡ label_of w = only kinds (label_of w) k e in
           let b : byte_of k ≡ w % 256 = ap label_of l ∙ label_byte w ∙ low_byte w in
           absurd (n (ap (λ (x : KindLabel). x.1) told ∙ ap label_number (ap (λ (x : ℕ). (candidate_of x).0) (sym b) ∙ own k) ∙ l))

@@ -6,11 +6,10 @@ ghost use Rattle.labels.specs.Label.{label_of};
 ghost use Rattle.labels.specs.Table.{rows, find_kind};
 ghost use Rattle.word_kinds.specs.HashLemmas.{candidate_of};
 
-use labels::Lookup;
 use records::Kind;
 
 // A kind and its label.
-#[derive(Clone, Copy)]
+#[derive(Clone, Copy, PartialEq, Eq, Debug)]
 struct KindLabel(Kind, u32);
 
 // The only kind that a word can be of, by a hash of its lowest byte that no two labels share.
@@ -38,14 +37,14 @@ fn candidate(word: u32) -> KindLabel
 }
 
 // The kind that a word's label stands for: that of its candidate, where it has the candidate's label.
-pub fn kind_in(word: u32) -> Lookup
+pub fn kind_in(word: u32) -> Option<Kind>
     ensures { result ≡ find_kind rows (label_of word) }
 {
     let found = candidate(word);
     if found.1 == word_labels::label_of(word) {
         let kind = found.0;
-        Lookup::Known(kind)
+        Some(kind)
     } else {
-        Lookup::Unknown
+        None
     }
 }

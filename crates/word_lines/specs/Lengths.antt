@@ -1,6 +1,6 @@
 -- How long the line of a word is at most, so that the place behind a whole listing cannot pass the largest number.
 -- Assumes nothing.
-use Rattle.std.specs.Prelude.{◌≡◌, refl, Bool, true, false, cond, ℕ, suc, ◌+◌, ◌-◌, ◌*◌, ◌/◌, ◌%◌, ◌^◌, ◌≤◌, ◌<◌, ltb, ℤ, nat_abs, length}
+use Rattle.std.specs.Prelude.{◌≡◌, refl, Bool, true, false, cond, ℕ, suc, ◌+◌, ◌-◌, ◌*◌, ◌/◌, ◌%◌, ◌^◌, ◌≤◌, ◌<◌, ltb, ℤ, nat_abs, length, Some, Result, Ok, Err}
 use Rattle.std.proofs.Math.Path.{subst⁻¹}
 use Rattle.std.proofs.Common.{mod-lt, div-le_self, lt_of_le_of_lt, arith, lit<, length-append}
 use Rattle.std.specs.Int.Signed.{nat_abs-le}
@@ -20,7 +20,6 @@ use Rattle.labels.proofs.Assignment.{document01}
 use Rattle.labels.specs.Label.{label_of}
 use Rattle.decode.specs.Rules.{body_of}
 use Rattle.decode.specs.Decode.{decode_of}
-use Rattle.decode.specs.declared.Decoded.{Decoded}
 use Rattle.roundtrip.specs.Reading.{accepted}
 use Rattle.quantities.specs.Nearest.{millionths_of}
 use Rattle.quantities.specs.Scale.{scale_of}
@@ -36,13 +35,13 @@ use Rattle.word_lines.specs.WordLines.{mark_text, figure_text, record_line, refu
 -- ---- figures
 
 record Narrow (f : Figure) : Type 0 where
-  within : length (figure_text f) ≤ 12
+  within : length (figure_text (Some f)) ≤ 12
 
 sign-length : (b : Bool) → length (sign b) ≤ 1
 sign-length true = omega arith
 sign-length false = omega arith
 
-number-length : (negative : Bool) (k places n : ℕ) → n / 10 ^ places < 10 ^ suc k → length (figure_text (Figure.Number negative places n)) ≤ suc k + 2 + places
+number-length : (negative : Bool) (k places n : ℕ) → n / 10 ^ places < 10 ^ suc k → length (figure_text (Some (record { negative = negative; places = places; size = n }))) ≤ suc k + 2 + places
 number-length negative k places n h = omega (arith, length-append (sign negative) (fixed places n), sign-length negative, fixed-length k places n h)
 
 -- frequencies, settings and contents are below a million
@@ -124,9 +123,9 @@ refused-length f = simp length-append (omega (arith, decimal-length 1 (number_of
 pub word_line_length : (w : ℕ) → length (word_line w) ≤ 25
 word_line_length w = go (decode_of w) refl
   where
-    go : (d : Decoded) → decode_of w ≡ d → length (decoded_line d (label_of w)) ≤ 25
-    go (Decoded.Accepted r) e =
+    go : (d : Result Record Refusal) → decode_of w ≡ d → length (decoded_line d (label_of w)) ≤ 25
+    go (Ok r) e =
         let a = accepted document01 w r e in
-        subst⁻¹ (λ (x : Record). length (decoded_line (Decoded.Accepted x) (label_of w)) ≤ 25) a.2
+        subst⁻¹ (λ (x : Record). length (decoded_line (Ok x) (label_of w)) ≤ 25) a.2
         (record_short (label_of w) (bits 9 10 w) (columns_of (body_of a.0 w)) (omega arith) (columns_short a.0 w))
-    go (Decoded.Refused f) e = omega (arith, refused-length f)
+    go (Err f) e = omega (arith, refused-length f)

@@ -1,6 +1,6 @@
 -- What makes the line believable: the text of a figure is that of a signed number, and parts show their bits 14 to 29.
 -- Assumes nothing.
-use Rattle.std.specs.Prelude.{◌≡◌, refl, ℕ, ℤ, pos, negsuc}
+use Rattle.std.specs.Prelude.{◌≡◌, refl, ℕ, ℤ, pos, negsuc, Some}
 use Rattle.std.proofs.Common.{ap, arith}
 use Rattle.bits.specs.Fields.{bits}
 use Rattle.records.specs.declared.Kind.{Kind}
@@ -11,7 +11,7 @@ use Rattle.word_lines.specs.WordLines.{figure_text}
 
 -- ---- the text of a figure with a sign
 
-pub signed_text : (places : ℕ) (z : ℤ) → figure_text (signed_figure places z) ≡ signed_fixed places z
+pub signed_text : (places : ℕ) (z : ℤ) → figure_text (Some (signed_figure places z)) ≡ signed_fixed places z
 signed_text places (pos n) = refl
 signed_text places (negsuc n) = refl
 

@@ -1,12 +1,12 @@
 -- The line of a word, byte by byte.
 -- Assumes nothing.
-use Rattle.std.specs.Prelude.{List, ◌++◌, ℕ}
+use Rattle.std.specs.Prelude.{List, ◌++◌, ℕ, Option, Some, None, Result, Ok, Err}
 use Rattle.refusals.specs.Numbers.{number_of}
 use Rattle.refusals.specs.declared.Refusal.{Refusal}
 use Rattle.statuses.specs.declared.Status.{Status}
 use Rattle.labels.specs.Label.{label_of}
 use Rattle.decode.specs.Decode.{decode_of}
-use Rattle.decode.specs.declared.Decoded.{Decoded}
+use Rattle.records.specs.declared.Record.{Record}
 use Rattle.text.specs.Ascii.{ascii}
 use Rattle.numerals.specs.Digits.{octal3, decimal, fixed, sign}
 use Rattle.columns.specs.Columns.{columns_of}
@@ -26,9 +26,9 @@ mark_text (Mark.Status status) = status_text status
 mark_text (Mark.Part part) = ascii "part" ++ decimal part
 
 -- a figure, or a dash where there is none
-abbrev pub figure_text : Figure → List ℕ
-figure_text (Figure.Number negative places size) = sign negative ++ fixed places size
-figure_text Figure.Absent = ascii "-"
+abbrev pub figure_text : Option Figure → List ℕ
+figure_text (Some figure) = sign figure.negative ++ fixed figure.places figure.size
+figure_text None = ascii "-"
 
 -- label, source, status or part, and figure, with blanks between them
 abbrev pub heading : ℕ → ℕ → List ℕ
@@ -44,9 +44,9 @@ abbrev pub refused_line : Refusal → List ℕ
 refused_line refusal = ascii "refused " ++ decimal (number_of refusal) ++ ascii "\n"
 
 -- the line of a word by what decoding gives of it
-abbrev pub decoded_line : Decoded → ℕ → List ℕ
-decoded_line (Decoded.Accepted r) label = record_line label r.source (columns_of r.body)
-decoded_line (Decoded.Refused refusal) label = refused_line refusal
+abbrev pub decoded_line : Result Record Refusal → ℕ → List ℕ
+decoded_line (Ok r) label = record_line label r.source (columns_of r.body)
+decoded_line (Err refusal) label = refused_line refusal
 
 -- the line of a word
 abbrev pub word_line : ℕ → List ℕ

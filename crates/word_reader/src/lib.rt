@@ -4,18 +4,13 @@
 ghost use Rattle.std.specs.Prelude.{◌≡◌};
 ghost use Rattle.typed_words.specs.Words.{word_of};
 
-use typed_words::TypedWord;
-
 // The word that a text of eight hex digits is.
-pub fn read_word(text: &[u8]) -> TypedWord
+pub fn read_word(text: &[u8]) -> Option<u32>
     ensures { result ≡ word_of text.now }
 {
     if text.len() != 8 {
-        return TypedWord::Unread;
+        return None;
     }
-    let number = typed_numbers::read_number(text, 16, 0xFFFFFFFF);
-    if number.good {
-        return TypedWord::Word(number.value as u32);
-    }
-    TypedWord::Unread
+    let number = typed_numbers::read_number(text, 16, 0xFFFFFFFF)?;
+    Some(number as u32)
 }

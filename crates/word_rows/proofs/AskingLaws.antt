@@ -1,6 +1,6 @@
 -- The answer by the row of a word's kind is the single call's: the row's tests are the kind's rules, and the count is that of the record.
 -- Assumes nothing.
-use Rattle.std.specs.Prelude.{◌≡◌, refl, Bool, cond, ℕ, ◌/◌, ◌%◌}
+use Rattle.std.specs.Prelude.{◌≡◌, refl, Bool, cond, ℕ, ◌/◌, ◌%◌, Option, Some}
 use Rattle.std.proofs.Common.{sym, ap, ap₂, ◌∙◌}
 use Rattle.bits.specs.Layout.{clear}
 use Rattle.bits.specs.Parity.{odd}
@@ -9,7 +9,6 @@ use Rattle.refusals.specs.declared.Refusal.{Refusal}
 use Rattle.records.specs.All.{agree}
 use Rattle.records.specs.Layouts.{word_layout}
 use Rattle.records.specs.declared.Kind.{Kind}
-use Rattle.labels.specs.declared.Lookup.{Lookup}
 use Rattle.decode.specs.Decode.{judgement, record_of, decode_clear, decode_found, decode_as}
 use Rattle.decode.specs.Rules.{rules, body_of}
 use Rattle.measurements.specs.Measurements.{measurement_of}
@@ -46,9 +45,9 @@ count_by_lem w = agree (λ k. count_by (asked k) w) (λ k. count_in (measurement
 clear-answer : (k : Kind) (w : ℕ) → clear_answer (asked k) w ≡ answer_in (decode_clear k w)
 clear-answer k w = ap₂ judged_answer (judgement_by_lem k w) (count_by_lem w k) ∙ judged-answer (judgement (rules k w)) (record_of k w)
 
-pub known-answer : (k : Kind) (w : ℕ) → known_answer (asked k) w ≡ answer_in (decode_as (Lookup.Known k) w)
+pub known-answer : (k : Kind) (w : ℕ) → known_answer (asked k) w ≡ answer_in (decode_as (Some k) w)
 known-answer k w =
-    tested (odd w) _ (decode_found (Lookup.Known k) w) Refusal.Parity
+    tested (odd w) _ (decode_found (Some k) w) Refusal.Parity
     (ap (λ (b : Bool). cond b (clear_answer (asked k) w) (refused Refusal.ZeroBit)) (cleared k w)
     ∙ tested (clear (word_layout k) w) (clear_answer (asked k) w) (decode_clear k w) Refusal.ZeroBit (clear-answer k w))
 
@@ -57,4 +56,4 @@ module _ (w : ℕ) (a : Asked) (told : a ≡ asked (candidate (w % 256))) where
   pub answer_hit : a.byte ≡ w % 256 → known_answer a w ≡ answer_of w
   answer_hit e =
       ap (λ (x : Asked). known_answer x w) told ∙ known-answer (candidate (w % 256)) w
-      ∙ ap (λ (l : Lookup). answer_in (decode_as l w)) (sym (byte_hit w (ap (λ (x : Asked). x.byte) (sym told) ∙ e)))
+      ∙ ap (λ (l : Option Kind). answer_in (decode_as l w)) (sym (byte_hit w (ap (λ (x : Asked). x.byte) (sym told) ∙ e)))

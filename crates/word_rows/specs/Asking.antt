@@ -1,6 +1,6 @@
 -- How the code finds the answer to a word: by the row of its kind. `AskingLaws` says that this is the single call's answer.
 -- Assumes nothing.
-use Rattle.std.specs.Prelude.{Bool, cond, ℕ, ◌/◌, ◌%◌, ◌^◌, eqb, leb, ℤ, pos}
+use Rattle.std.specs.Prelude.{Bool, cond, ℕ, ◌/◌, ◌%◌, ◌^◌, eqb, leb, ℤ, pos, Result, Ok, Err}
 use Rattle.std.specs.Int.Bits.{bit_and}
 use Rattle.bits.specs.Complement.{signed}
 use Rattle.bits.specs.Fields.{bits}
@@ -10,7 +10,6 @@ use Rattle.refusals.specs.declared.Refusal.{Refusal}
 use Rattle.frequencies.specs.declared.Band.{Band}
 use Rattle.decode.specs.Decode.{judgement}
 use Rattle.decode.specs.Rules.{decimal}
-use Rattle.decode.specs.declared.Judgement.{Judgement}
 use Rattle.pages.specs.declared.Answer.{Answer}
 use Rattle.word_rows.specs.declared.Asked.{Asked}
 
@@ -25,18 +24,18 @@ most a = cond (eqb a.limited 1) 359 511
 abbrev pub checked : Asked → ℕ → ℕ
 checked a w = cond (eqb a.angle 1) (bits 20 28 w) 1
 
-abbrev pub plain_judgement : Asked → ℕ → Judgement
+abbrev pub plain_judgement : Asked → ℕ → Result Unit Refusal
 plain_judgement a w =
     cond (is_listed a w)
-    (cond (leb (bits 20 28 w) (most a)) (cond (odd (checked a w)) Judgement.Kept (Judgement.Broken Refusal.AngleParity)) (Judgement.Broken Refusal.Value))
-    (Judgement.Broken Refusal.Code)
+    (cond (leb (bits 20 28 w) (most a)) (cond (odd (checked a w)) (Ok tt) (Err Refusal.AngleParity)) (Err Refusal.Value))
+    (Err Refusal.Code)
 
-abbrev pub by_band : (band : ℕ) → Asked → ℕ → Judgement
+abbrev pub by_band : (band : ℕ) → Asked → ℕ → Result Unit Refusal
 by_band band a w =
     cond (eqb band 1) (judgement (decimal Band.Vor w))
     (cond (eqb band 2) (judgement (decimal Band.Ils w)) (cond (eqb band 3) (judgement (decimal Band.Mls w)) (plain_judgement a w)))
 
-abbrev pub judgement_by : Asked → ℕ → Judgement
+abbrev pub judgement_by : Asked → ℕ → Result Unit Refusal
 judgement_by a w = by_band a.band a w
 
 abbrev pub count_by : Asked → ℕ → ℤ
@@ -46,9 +45,9 @@ count_by a w = cond (eqb a.short 1) (signed 13 (bits 17 29 w)) (cond (eqb a.long
 abbrev pub refused : Refusal → Answer
 refused f = record { refusal = number_of f; count = pos 0 }
 
-abbrev pub judged_answer : Judgement → ℤ → Answer
-judged_answer Judgement.Kept c = record { refusal = 0; count = c }
-judged_answer (Judgement.Broken f) c = refused f
+abbrev pub judged_answer : Result Unit Refusal → ℤ → Answer
+judged_answer (Ok tt) c = record { refusal = 0; count = c }
+judged_answer (Err f) c = refused f
 
 abbrev pub clear_answer : Asked → ℕ → Answer
 clear_answer a w = judged_answer (judgement_by a w) (count_by a w)

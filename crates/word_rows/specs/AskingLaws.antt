@@ -1,6 +1,6 @@
 -- The answer by the row of a word's kind is the single call's: the row's tests are the kind's rules, and the count is that of the record.
 -- Assumes nothing.
-use Rattle.std.specs.Prelude.{◌≡◌, refl, Bool, true, false, not, cond, ℕ, ◌/◌, ◌%◌, ◌^◌, ◌<◌, T, eqb, leb}
+use Rattle.std.specs.Prelude.{◌≡◌, refl, Bool, true, false, not, cond, ℕ, ◌/◌, ◌%◌, ◌^◌, ◌<◌, T, eqb, leb, Option, None, Result, Ok, Err}
 use Rattle.std.proofs.Common.{sym, ap, ◌∙◌, mod-lt, arith, le-leb, lit<}
 use Rattle.std.specs.Int.Bits.{bit_and}
 use Rattle.std.specs.Int.Count.{ones_in}
@@ -16,10 +16,7 @@ use Rattle.records.proofs.Layouts.{whole}
 use Rattle.records.specs.declared.Kind.{Kind}
 use Rattle.records.specs.declared.Record.{Record}
 use Rattle.labels.specs.BytesLemmas.{every, every-at}
-use Rattle.labels.specs.declared.Lookup.{Lookup}
 use Rattle.decode.specs.Decode.{judged, decode_as}
-use Rattle.decode.specs.declared.Decoded.{Decoded}
-use Rattle.decode.specs.declared.Judgement.{Judgement}
 use Rattle.measurements.specs.Measurements.{measurement_of}
 use Rattle.pages.specs.Page.{count_in, answer_in, answer_of}
 use Rattle.pages.specs.declared.Answer.{Answer}
@@ -65,8 +62,8 @@ pub any-setting : (w : ℕ) → leb (bits 20 28 w) 511 ≡ true
 any-setting w = le-leb (bits 20 28 w) 511 (omega arith)
 
 -- the three tests of a word that is no frequency
-abbrev plain : (listed within right : Bool) → Judgement
-plain listed within right = cond listed (cond within (cond right Judgement.Kept (Judgement.Broken Refusal.AngleParity)) (Judgement.Broken Refusal.Value)) (Judgement.Broken Refusal.Code)
+abbrev plain : (listed within right : Bool) → Result Unit Refusal
+plain listed within right = cond listed (cond within (cond right (Ok tt) (Err Refusal.AngleParity)) (Err Refusal.Value)) (Err Refusal.Code)
 
 pub judged_by : (a : Asked) (w : ℕ) {listed within right : Bool} → is_listed a w ≡ listed → leb (bits 20 28 w) (most a) ≡ within → odd (checked a w) ≡ right → plain_judgement a w ≡ plain listed within right
 judged_by a w e f g = λ i. plain (e i) (f i) (g i)
@@ -88,20 +85,20 @@ cleared k w = ap (λ (z : ℕ). eqb (bit_and w z) 0) (asked-zeros k) ∙ mask_te
 
 -- ---- the answer
 
-pub judged-answer : (j : Judgement) (r : Record) → judged_answer j (count_in (measurement_of r.body)) ≡ answer_in (judged j r)
-judged-answer Judgement.Kept r = refl
-judged-answer (Judgement.Broken f) r = refl
+pub judged-answer : (j : Result Unit Refusal) (r : Record) → judged_answer j (count_in (measurement_of r.body)) ≡ answer_in (judged j r)
+judged-answer (Ok tt) r = refl
+judged-answer (Err f) r = refl
 
 -- a test that fails refuses
-pub tested : (b : Bool) (x : Answer) (d : Decoded) (f : Refusal) → x ≡ answer_in d → cond b x (refused f) ≡ answer_in (cond b d (Decoded.Refused f))
+pub tested : (b : Bool) (x : Answer) (d : Result Record Refusal) (f : Refusal) → x ≡ answer_in d → cond b x (refused f) ≡ answer_in (cond b d (Err f))
 tested true x d f e = e
 tested false x d f e = refl
 
-pub unknown_answer_lem : (w : ℕ) → unknown_answer w ≡ answer_in (decode_as Lookup.Unknown w)
-unknown_answer_lem w = tested (odd w) (refused Refusal.Label) (Decoded.Refused Refusal.Label) Refusal.Parity refl
+pub unknown_answer_lem : (w : ℕ) → unknown_answer w ≡ answer_in (decode_as None w)
+unknown_answer_lem w = tested (odd w) (refused Refusal.Label) (Err Refusal.Label) Refusal.Parity refl
 
 module _ (w : ℕ) (a : Asked) (told : a ≡ asked (candidate (w % 256))) where
   pub answer_miss : (a.byte ≡ w % 256 → ⊥) → unknown_answer w ≡ answer_of w
   answer_miss n =
       unknown_answer_lem w
-      ∙ ap (λ (l : Lookup). answer_in (decode_as l w)) (sym (byte_miss w (λ e. n (ap (λ (x : Asked). x.byte) told ∙ e))))
+      ∙ ap (λ (l : Option Kind). answer_in (decode_as l w)) (sym (byte_miss w (λ e. n (ap (λ (x : Asked). x.byte) told ∙ e))))

@@ -1,6 +1,6 @@
 -- A packed row has its fields, and the byte of the candidate's row tells whether a word is of that kind.
 -- Assumes nothing.
-use Rattle.std.specs.Prelude.{◌≡◌, refl, ℕ, ◌%◌}
+use Rattle.std.specs.Prelude.{◌≡◌, refl, ℕ, ◌%◌, Some, None}
 use Rattle.std.proofs.Common.{sym, ap, ◌∙◌, div-one}
 use Rattle.bits.specs.Fields.{bits}
 use Rattle.records.specs.All.{agree}
@@ -8,7 +8,6 @@ use Rattle.records.specs.declared.Kind.{Kind}
 use Rattle.labels.specs.Label.{label_of}
 use Rattle.labels.proofs.LabelLaws.{label_low, label_byte}
 use Rattle.labels.specs.Table.{label_number, byte_of, rows, find_kind}
-use Rattle.labels.specs.declared.Lookup.{Lookup}
 use Rattle.word_kinds.specs.HashLemmas.{candidate_of, kind_hit, kind_miss}
 use Rattle.word_rows.specs.Rows.{asked, unpacked, packed, candidate}
 
@@ -27,7 +26,7 @@ asked_byte = agree (λ k. (asked k).byte) byte_of refl
 
 module _ (w : ℕ) where
   -- a word with the byte of its candidate is of that kind
-  pub byte_hit : (asked (candidate (w % 256))).byte ≡ w % 256 → find_kind rows (label_of w) ≡ Lookup.Known (candidate (w % 256))
+  pub byte_hit : (asked (candidate (w % 256))).byte ≡ w % 256 → find_kind rows (label_of w) ≡ Some (candidate (w % 256))
   byte_hit e =
       let k = candidate (w % 256) in
       sym
@@ -35,7 +34,7 @@ module _ (w : ℕ) where
       (sym (label_again k) ∙ ap label_of (sym (asked_byte k) ∙ e ∙ sym (low_byte w)) ∙ label_low w))
 
   -- and one with another byte is of no kind
-  pub byte_miss : ((asked (candidate (w % 256))).byte ≡ w % 256 → ⊥) → find_kind rows (label_of w) ≡ Lookup.Unknown
+  pub byte_miss : ((asked (candidate (w % 256))).byte ≡ w % 256 → ⊥) → find_kind rows (label_of w) ≡ None
   byte_miss n =
       let k = candidate (w % 256) in
       sym

@@ -5,7 +5,7 @@ ghost use Rattle.std.specs.Prelude.{◌≡◌, ◌%◌};
 ghost use Rattle.word_rows.specs.Rows.{candidate, packed, unpacked, asked};
 
 // What the words of a kind are asked.
-#[derive(Clone, Copy)]
+#[derive(Clone, Copy, PartialEq, Eq, Debug)]
 pub struct Asked {
     // bits 1 to 8
     pub byte: u32,

@@ -1,23 +1,21 @@
 -- What stands in the buffer after writing a field: its bytes at the place, every other byte as before, and nothing new on a refusal.
 -- Assumes nothing.
-use Rattle.std.specs.Prelude.{◌≡◌, List, ◌++◌, ◌⊎◌, ℕ, ◌+◌, ◌-◌, ◌^◌, ◌<◌, ◌≤◌, ℤ, length, get_or, take, drop}
+use Rattle.std.specs.Prelude.{◌≡◌, List, ◌++◌, ◌⊎◌, ℕ, ◌+◌, ◌-◌, ◌^◌, ◌<◌, ◌≤◌, ℤ, length, get_or, take, drop, Result, Ok}
 use Rattle.std.proofs.Common.{sym, ap, ◌∙◌, append_assoc, inl, inr, arith, length-append, length-drop, take_at, drop_at, drop-drop, get_or-append-add, get_or-take, get_or-drop}
 use Rattle.std.proofs.Math.ListN.{get_or-append}
 use Rattle.std.proofs.Math.Seq.{take-append_seam}
 use Rattle.fields.specs.declared.FieldKind.{FieldKind}
 use Rattle.fields.specs.Start.{field_bytes}
 use Rattle.bits.specs.Complement.{Holds}
-use Rattle.contents.specs.declared.WordIn.{WordIn}
-use Rattle.contents.specs.declared.FigureIn.{FigureIn}
+use Rattle.refusals.specs.declared.Refusal.{Refusal}
 use Rattle.contents.specs.Contents.{word_bytes, figure_bytes, word_in, figure_in}
 use Rattle.contents.proofs.Contents.{word_read, figure_read}
-use Rattle.writer.specs.declared.Written.{Written}
 use Rattle.writer.specs.Write.{buffer_of, write_of}
 use Rattle.writer.specs.Buffer.{bounds, after, before_length, front_length}
 
-module _ (out : List ℕ) (place : ℕ) (k : FieldKind) (c : List ℕ) (end : ℕ) (done : (write_of out place k c).answer ≡ Written.End end) where
+module _ (out : List ℕ) (place : ℕ) (k : FieldKind) (c : List ℕ) (end : ℕ) (done : (write_of out place k c).answer ≡ Ok end) where
   is_after : (write_of out place k c).buffer ≡ (after out place k c end done)
-  is_after = ap (λ (w : Written). buffer_of w out place (field_bytes k c)) done
+  is_after = ap (λ (w : Result ℕ (Refusal × ℕ)). buffer_of w out place (field_bytes k c)) done
 
   -- the buffer up to the field's end
   pub up_to_end : take end (write_of out place k c).buffer ≡ take place out ++ field_bytes k c
@@ -59,12 +57,12 @@ module _ (out : List ℕ) (place : ℕ) (k : FieldKind) (c : List ℕ) (end : �
       ∙ take-append_seam c (drop end out)
 
 -- a word that was written is read back
-pub word_back : (out : List ℕ) (place w end : ℕ) → w < 2 ^ 32 → (write_of out place FieldKind.Word (word_bytes w)).answer ≡ Written.End end
-    → word_in (take 4 (drop (place + 3) (write_of out place FieldKind.Word (word_bytes w)).buffer)) ≡ WordIn.Word w
+pub word_back : (out : List ℕ) (place w end : ℕ) → w < 2 ^ 32 → (write_of out place FieldKind.Word (word_bytes w)).answer ≡ Ok end
+    → word_in (take 4 (drop (place + 3) (write_of out place FieldKind.Word (word_bytes w)).buffer)) ≡ Ok w
 word_back out place w end h done = ap word_in (content_stands out place FieldKind.Word (word_bytes w) end done) ∙ word_read w h
 
 -- a figure that was written is read back
 pub figure_back : (out : List ℕ) (place label : ℕ) (m : ℤ) (end : ℕ) → Holds 64 m
-    → (write_of out place FieldKind.Figure (figure_bytes label m)).answer ≡ Written.End end
-    → figure_in (take 9 (drop (place + 3) (write_of out place FieldKind.Figure (figure_bytes label m)).buffer)) ≡ FigureIn.Figure label m
+    → (write_of out place FieldKind.Figure (figure_bytes label m)).answer ≡ Ok end
+    → figure_in (take 9 (drop (place + 3) (write_of out place FieldKind.Figure (figure_bytes label m)).buffer)) ≡ Ok (label, m)
 figure_back out place label m end h done = ap figure_in (content_stands out place FieldKind.Figure (figure_bytes label m) end done) ∙ figure_read label m h

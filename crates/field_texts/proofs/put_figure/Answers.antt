@@ -12,9 +12,9 @@ use Rattle.field_texts.specs.FieldTexts.{figure_words}
 use borrow.Author.Rules.{rules}
 use Rattle.field_texts.proofs.put_figure.Goals as goal
 
-pub returns-in-Figure : goal.returns-in-Figure
-returns-in-Figure c =
+pub returns-in-Ok : goal.returns-in-Ok
+returns-in-Ok c =
     let content = c.figure_in in
-    let e = to_z-of_z {w = w64} {z = c.in-Figure.millionths} (search rules) in
+    let e = to_z-of_z {w = w64} {z = c.in-Ok.millionths} (search rules) in
     named (joined (joined c.put_octal3-blank.ensures c.put_byte-number.ensures) c.put_millionths.ensures)
-    (ap (λ (z : ℤ). octal3 c.in-Figure.label ++ ascii " " ++ signed_fixed 6 z) e ∙ ap figure_words (sym c.in-Figure.is ∙ content.ensures))
+    (ap (λ (z : ℤ). octal3 c.in-Ok.label ++ ascii " " ++ signed_fixed 6 z) e ∙ ap figure_words (sym c.in-Ok.is ∙ content.ensures))

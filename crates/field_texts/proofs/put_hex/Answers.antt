@@ -6,8 +6,6 @@ use Rattle.hex_texts.specs.HexTexts.{hex_byte}
 use Rattle.field_texts.specs.FieldTexts.{each-suc}
 use Rattle.field_texts.proofs.put_hex.Goals as goal
 
-pub loop-i-preserved : goal.loop-i-preserved
-loop-i-preserved c =
-    let a = c.args in
-    let l = c.loop-i in
-    (omega arith, named (joined l.invariant.1 c.put_hex_byte-next.ensures) (each-suc hex_byte a.bytes.now l.i c.loop-i-test.true))
+pub loop-byte-preserved : goal.loop-byte-preserved
+loop-byte-preserved c =
+    named (joined c.loop-byte.invariant c.put_hex_byte-next.ensures) (each-suc hex_byte c.args.bytes.now c.loop-byte.byte-index (omega arith))

@@ -1,12 +1,10 @@
--- No line feed stands behind the place at hand, which falls.
-use Rattle.line_ends.proofs.Searching.{found, not_found}
+-- By the place of the last line feed, if there is one (proofs/Searching.antt).
+use Rattle.std.proofs.Common.{rules}
+use Rattle.line_ends.proofs.Searching.{last_feed, no_feed}
 use Rattle.line_ends.proofs.whole_lines.Goals as goal
 
-pub returns-then-text-before-eq10 : goal.returns-then-text-before-eq10
-returns-then-text-before-eq10 c =
-    let loop = c.loop-end in
-    found c.args.text.now loop.end loop.invariant c.loop-end-test.true c.if-text-before-eq10.true
+pub returns-in-Some : goal.returns-in-Some
+returns-in-Some c = last_feed c.args.text.now c.in-Some.last (search rules) (search rules) (search rules)
 
-pub returns : goal.returns
-returns c =
-    not_found c.args.text.now c.loop-end.end c.loop-end.invariant c.loop-end-test.false
+pub returns-in-None : goal.returns-in-None
+returns-in-None c = no_feed c.args.text.now (search rules)

@@ -1,11 +1,10 @@
--- By the last byte, if there is one.
+-- By the last byte, if there is one (proofs/Returns.antt).
+use native.Mathlib.Omega.{arith}
 use Rattle.line_parts.proofs.Returns.{return_last, other_last}
 use Rattle.line_parts.proofs.without_return.Goals as goal
 
-pub returns-then-line-last-eq13 : goal.returns-then-line-last-eq13
-returns-then-line-last-eq13 c =
-    return_last c.args.line.now c.if-line-eq0.false c.if-line-last-eq13.true
+pub returns-in-Some : goal.returns-in-Some
+returns-in-Some c = return_last c.args.line.now c.in-Some.rest.now c.in-Some.field-0-0.now c.in-Some.ensures.cases.0 (omega arith)
 
-pub returns : goal.returns
-returns c =
-    other_last c.args.line.now c.if-line-eq0.false c.if-line-last-eq13.false
+pub returns-in_default : goal.returns-in_default
+returns-in_default c = other_last c.args.line.now c.in-Some.rest.now c.in-Some.field-0-0.now c.in-Some.ensures.cases.0 (λ e. omega arith)

@@ -5,5 +5,5 @@ use Rattle.listing.specs.Listing.{text_of}
 use Rattle.list.specs.Whole.{fits}
 use Rattle.list.proofs.list_whole.Goals as goal
 
-pub returns-in-Refused-clause-text_after : goal.returns-in-Refused-clause-text_after
-returns-in-Refused-clause-text_after c = absurd (never_refused (text_of c.args.sheet.now) c.args.text.now (fits c.args.sheet.now c.args.text.now (search rules)) c.list_sheet.result c.list_sheet.ensures.answer c.in-Refused.field-0 c.in-Refused.is)
+pub returns-in-Err-clause-text_after : goal.returns-in-Err-clause-text_after
+returns-in-Err-clause-text_after c = absurd (never_refused (text_of c.args.sheet.now) c.args.text.now (fits c.args.sheet.now c.args.text.now (search rules)) c.list_sheet.result c.list_sheet.ensures.answer c.in-Err.field-0 c.in-Err.is)

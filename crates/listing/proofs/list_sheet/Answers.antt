@@ -1,11 +1,11 @@
--- The text is written only where it fits (specs/BufferLemmas.antt).
-use mathlib.Core.Path.{sym, ◌∙◌}
+-- The closure puts the sheet's listing, which is no longer than the limit (proofs/Size.antt).
+use Rattle.std.proofs.Common.{rules}
 use Rattle.listing.specs.Listing.{text_of}
-use Rattle.listing.specs.BufferLemmas.{stored}
-use Rattle.listing.proofs.BufferLemmas.{text_counted}
+use Rattle.listing.proofs.Size.{text_short}
 use Rattle.listing.proofs.list_sheet.Goals as goal
 
+pub returns-clause-answer : goal.returns-clause-answer
+returns-clause-answer c = c.put_whole.ensures.answer (text_of c.args.sheet.now) (search rules) (text_short c.args.sheet.now)
+
 pub returns-clause-content : goal.returns-clause-content
-returns-clause-content c =
-    (stored (text_of c.args.sheet.now) c.args.out.now _ c.put_listing.result (text_counted c.args.sheet.now) c.put_listing.ensures
-    (sym c.is_longer.ensures ∙ c.if-is_longer.false)).1
+returns-clause-content c = c.put_whole.ensures.content (text_of c.args.sheet.now) (search rules) (text_short c.args.sheet.now)

@@ -3,8 +3,8 @@ use Rattle.walk.specs.Stands.{left}
 use Rattle.listing.specs.LoopLemmas.{Going}
 use Rattle.listing.proofs.put_listing.Given as goal
 
-abbrev pub invariant-loop-field : goal.invariant-loop-field
-invariant-loop-field l = Going l.sheet l.initial.out l.out l.walk l.progress
+abbrev pub invariant-loop-given : goal.invariant-loop-given
+invariant-loop-given l = Going l.sheet l.initial.out l.out l.walk l.progress
 
-abbrev pub decreases-loop-field : goal.decreases-loop-field
-decreases-loop-field l = left l.sheet l.walk
+abbrev pub decreases-loop-given : goal.decreases-loop-given
+decreases-loop-given l = left l.sheet l.walk

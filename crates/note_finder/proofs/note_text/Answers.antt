@@ -1,8 +1,9 @@
 -- The text lies in the sheet (`text_lies`), so the part from its start to its end is the text.
+use Rattle.std.specs.Prelude.{Result}
 use Rattle.std.proofs.Common.{◌≡◌, sym, ap, subst, ◌∙◌, List, ℕ, ◌+◌, ◌-◌, ◌≤◌, length, take, drop, arith}
 use Rattle.fields.specs.Run.{sheet_of}
 use Rattle.walk.specs.WithinLemmas.{drop-take}
-use Rattle.notes.specs.declared.NoteFound.{NoteFound}
+use Rattle.refusals.specs.declared.Refusal.{Refusal}
 use Rattle.notes.specs.declared.Span.{Span}
 use Rattle.notes.specs.Note.{NoteText, note_of, found_of, span_of}
 use Rattle.notes.specs.Place.{Lies}
@@ -25,7 +26,7 @@ part_of : (s : List ℕ) (p : ℕ) (t : NoteText) (v : Span) → v ≡ span_of (
 part_of s p t v e l =
     subst (Part s p t) (sym e) (record { ordered = l.ordered; in_sheet = l.in_sheet; holds = as_part _ _ s l.ordered l.in_sheet })
 
-taken : (s : List ℕ) (p : ℕ) (f : NoteFound) (v : Span) → v ≡ span_of f → f ≡ found_of p (note_of (sheet_of s) p) → Part s p (note_of (sheet_of s) p) v
+taken : (s : List ℕ) (p : ℕ) (f : Result (ℕ × ℕ) (Refusal × ℕ)) (v : Span) → v ≡ span_of f → f ≡ found_of p (note_of (sheet_of s) p) → Part s p (note_of (sheet_of s) p) v
 taken s p f v e e' = part_of s p (note_of (sheet_of s) p) v (e ∙ ap span_of e') (text_lies s p)
 
 pub slice_bounds-result-end : goal.slice_bounds-result-end

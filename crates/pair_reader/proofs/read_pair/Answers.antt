@@ -1,8 +1,7 @@
 -- What the calls give are the parts of the definition.
+use Rattle.std.specs.Prelude.{Option, ℕ, ℤ}
 use mathlib.Core.Path.{◌≡◌, ap, ap₂, ◌∙◌}
-use Rattle.typed_words.specs.declared.TypedWord.{TypedWord}
 use Rattle.typed_words.specs.Words.{word_of}
-use Rattle.typed_figures.specs.declared.TypedFigure.{TypedFigure}
 use Rattle.typed_figures.specs.Figures.{figure_of}
 use Rattle.typed_lines.specs.Lines.{skip_blanks, first_part, behind_part}
 use Rattle.typed_lines.specs.TwoParts.{behind_first}
@@ -20,5 +19,5 @@ returns c =
     let figure = c.read_figure-figure.ensures ∙ ap figure_of (c.first_part-2.ensures ∙ ap first_part behind) in
     let rest = c.skip_blanks-rest.ensures ∙ ap skip_blanks (c.behind_part-2.ensures ∙ ap behind_part behind) in
     c.pair_of.ensures
-    ∙ ap₂ (λ (x : TypedWord) (y : TypedFigure). pair_of x y c.skip_blanks-rest.result.now) word figure
+    ∙ ap₂ (λ (x : Option ℕ) (y : Option ℤ). pair_of x y c.skip_blanks-rest.result.now) word figure
     ∙ ap (pair_of (word_of (first_part (skip_blanks text))) (figure_of (first_part (behind_first text)))) rest

@@ -12,11 +12,11 @@ decreases-check_field l = 2 * (length l.run.now - l.at)
 abbrev pub decreases-check_run : goal.decreases-check_run
 decreases-check_run l = 2 * length l.run.now + 1
 
-abbrev pub invariant-check_run-loop-refusal : goal.invariant-check_run-loop-refusal
-invariant-check_run-loop-refusal l = record {
+abbrev pub invariant-check_run-loop-next : goal.invariant-check_run-loop-next
+invariant-check_run-loop-next l = record {
   inside : l.at ≤ length l.run;
   same : rest_of (4 - l.depths) l.offset l.run l.at ≡ checked_of (run_of (4 - l.depths) l.offset l.run);
 }
 
-abbrev pub decreases-check_run-loop-refusal : goal.decreases-check_run-loop-refusal
-decreases-check_run-loop-refusal l = length l.run - l.at
+abbrev pub decreases-check_run-loop-next : goal.decreases-check_run-loop-next
+decreases-check_run-loop-next l = length l.run - l.at

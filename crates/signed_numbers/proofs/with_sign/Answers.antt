@@ -1,4 +1,5 @@
 -- `signed_numbers::with_sign`: a size below 2 ^ 63 is the number of its own bits, and the complement of a size less 1 is the negative number.
+use Rattle.std.specs.Prelude.{Some}
 use mathlib.Core.Path.{◌≡◌, refl, sym, ap, ◌∙◌}
 use mathlib.Core.Bool.{Bool, true, false, ◌&&◌}
 use Prim.Native.Nat.{ℕ, zero, suc, ◌+◌, ◌-◌, ◌≤◌, ◌<◌, ◌^◌}
@@ -10,7 +11,6 @@ use mir.Syntax.{w64}
 use mir.Val.{to_z, bool_byte}
 use mir.Facts.{to_z_pos, to_z-neg}
 use Rattle.rounding.specs.Parts.{with_sign}
-use Rattle.signed_numbers.specs.declared.Signed.TheVariants.{Number}
 use Rattle.signed_numbers.specs.Signed.{greatest}
 use Rattle.signed_numbers.proofs.SignedTheorems.{signed-number, signed_large}
 use Rattle.signed_numbers.proofs.with_sign.Goals as goal
@@ -60,11 +60,11 @@ returns-then-negative-size-2 c =
     let size = c.args.size in
     let l = within b size c.if-negative-size.false in
     let k = below b size c.if-negative-size-2.true in
-    ap Number (negative b size k.0 k.1 l) ∙ sym (signed-number b size l)
+    ap Some (negative b size k.0 k.1 l) ∙ sym (signed-number b size l)
 
 pub returns : goal.returns
 returns c =
     let b = c.args.negative in
     let size = c.args.size in
     let l = within b size c.if-negative-size.false in
-    ap Number (to_z_pos w64 (small b size c.if-negative-size-2.false l) ∙ same b size c.if-negative-size-2.false) ∙ sym (signed-number b size l)
+    ap Some (to_z_pos w64 (small b size c.if-negative-size-2.false l) ∙ same b size c.if-negative-size-2.false) ∙ sym (signed-number b size l)

@@ -1,20 +1,13 @@
--- The text from the place behind the byte on is what stands behind it (`rest_behind`); where there is none, nothing is left at the end.
-use Rattle.typed_parts.proofs.Parts.{place_within, rest_behind, rest_empty}
+-- By the place of the byte, if there is one (proofs/Parts.antt).
+use mathlib.Core.Path.{◌∙◌}
+use Prim.Native.Nat.{◌+◌}
+use Rattle.typed_parts.proofs.Parts.{rest, behind_at, none_behind}
 use Rattle.typed_parts.proofs.text_behind.Goals as goal
 
-pub returns-then-end-text : goal.returns-then-end-text
-returns-then-end-text c =
-    let a = c.args in
-    rest_behind a.byte a.text.now c.find-end.result c.find-end.ensures c.if-end-text.true
+pub returns-in-Some : goal.returns-in-Some
+returns-in-Some c =
+    let text = c.args.text.now in
+    rest text (c.in-Some.end + 1) ∙ behind_at c.args.byte text c.in-Some.end (cc)
 
-pub slice_bounds-result-count-2 : goal.slice_bounds-result-count-2
-slice_bounds-result-count-2 c =
-    place_within c.args.byte c.args.text.now c.find-end.result c.find-end.ensures
-
-pub returns : goal.returns
-returns c =
-    let a = c.args in
-    rest_empty a.byte a.text.now c.find-end.result c.find-end.ensures c.if-end-text.false
-
-pub slice_bounds-result-start-2 : goal.slice_bounds-result-start-2
-slice_bounds-result-start-2 c = place_within c.args.byte c.args.text.now c.find-end.result c.find-end.ensures
+pub returns-in-None : goal.returns-in-None
+returns-in-None c = none_behind c.args.byte c.args.text.now (cc)

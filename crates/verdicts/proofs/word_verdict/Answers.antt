@@ -11,7 +11,7 @@ returns-then-label_of-label c =
     c.measurement_verdict.ensures
     ∙ ap₂ measurement_verdict c.measurement_of.ensures (to_z-of_z c.ranges.millionths)
     ∙ accepted_verdict c.args.word c.args.label c.args.millionths _ _ true
-    (sym c.decode.ensures ∙ c.in-Accepted.is)
+    (sym c.decode.ensures ∙ c.in-Ok.is)
     c.label_of.ensures
     c.has_reading.ensures
     c.if-label_of-label.true

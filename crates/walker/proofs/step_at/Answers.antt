@@ -13,7 +13,7 @@ use Rattle.walker.proofs.step_at.Goals as goal
 pub given_at-requires : goal.given_at-requires
 given_at-requires c k n e =
     let s = c.args.sheet.now in
-    let in_sheet = (within c.args.level.depth c.args.position.place c.lesser-end.result s k n (sym c.start_at.ensures ∙ e)).in_sheet in
+    let in_sheet = (within c.args.level.depth c.args.position.place c.min-end.result s k n (sym c.start_at.ensures ∙ e)).in_sheet in
     omega arith
 
 pub returns : goal.returns
@@ -24,4 +24,4 @@ returns c =
     c.given_at.ensures
     ∙ ap (given_at w l.depth)
     (c.start_at.ensures
-    ∙ ap (λ (run : List ℕ). start_of l.depth (drop w.place run)) (ap (λ (n : ℕ). take n s) c.lesser-end.ensures ∙ take_min l.end s))
+    ∙ ap (λ (run : List ℕ). start_of l.depth (drop w.place run)) (ap (λ (n : ℕ). take n s) c.min-end.ensures ∙ take_min l.end s))
