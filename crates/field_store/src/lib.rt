@@ -2,6 +2,7 @@
 #![tactic(auto)]
 
 ghost use Rattle.std.specs.Prelude.{◌≡◌, ◌++◌, ◌+◌, ◌≤◌, ◌<◌, length, take, drop};
+ghost use Rattle.std.proofs.Math.Seq.{paste};
 ghost use Rattle.fields.specs.Start.{tagged};
 ghost use Rattle.writer.specs.Write.{answer_of, put};
 
@@ -30,6 +31,16 @@ pub fn end_of(room: usize, place: usize, length: usize) -> Result<usize, (Refusa
     Ok(end)
 }
 
+// Copies the content into the buffer from a place on: byte by byte, since `copy_from_slice` wants `memmove` of a C library.
+fn copy_to(out: &mut [u8], at: usize, content: &[u8])
+    requires { at + length content.now ≤ length out.old }
+    ensures { out.new ≡ paste out.old at content.now (length content.now) }
+{
+    for (i, &byte) in content.iter().enumerate() {
+        out[at + i] = byte;
+    }
+}
+
 // Stores a tag, a length, high byte first, and the content.
 fn store(out: &mut [u8], place: usize, tag: u8, content: &[u8])
     requires { (place + 3 + length content.now ≤ length out.old) × (length content.now < 0x10000) }
@@ -39,7 +50,7 @@ fn store(out: &mut [u8], place: usize, tag: u8, content: &[u8])
     out[place] = tag;
     out[place + 1] = (length / 256) as u8;
     out[place + 2] = (length % 256) as u8;
-    out[place + 3..place + 3 + length].copy_from_slice(content);
+    copy_to(out, place + 3, content);
 }
 
 // Stores a tag, a length and the content, where they fit.
