@@ -2,4 +2,5 @@
 pub mod FieldLines
 pub mod LoopLemmas
 pub mod Size
+pub mod Short
 pub mod TheoremsLemmas

@@ -6,7 +6,10 @@ ghost use Rattle.walk.specs.Rest.{field_of};
 ghost use Rattle.text.specs.Writing.{Writes};
 ghost use Rattle.listing.specs.Listing.{listed_of, buffer_of};
 ghost use Rattle.field_lines.specs.FieldLines.{place_text, head_text, line_of, text_of};
+ghost use Rattle.field_lines.specs.Size.{longest};
+ghost use Rattle.field_lines.specs.Short.{text_short};
 
+use listing::SheetText;
 use refusals::Refusal;
 use walk::FieldAt;
 
@@ -66,13 +69,27 @@ fn put_lines(out: &mut [u8], sheet: &[u8]) -> usize
     }
 }
 
-// No sheet's text has more bytes.
-const TEXT_LIMIT: usize = 196608;
+// The fields' lines.
+struct FieldLines;
+
+impl SheetText for FieldLines {
+    ghost text_of = { text_of };
+
+    ghost LIMIT = { longest };
+
+    const LIMIT: usize = 196608;
+
+    fn put(out: &mut [u8], sheet: &[u8]) -> usize {
+        put_lines(out, sheet)
+    }
+
+    ghost within_limit = { text_short };
+}
 
 // Writes a line for each field of a sheet, or its refusal, into a buffer: the text's length, or 13 with the buffer as it was.
 pub fn list_fields(sheet: &[u8], out: &mut [u8]) -> Result<usize, Refusal>
     ensures answer { result ≡ listed_of (text_of sheet.now) out.old }
     ensures content { out.new ≡ buffer_of (text_of sheet.now) out.old }
 {
-    listing::put_whole(TEXT_LIMIT, |buffer| put_lines(buffer, sheet), out)
+    listing::put_whole::<FieldLines>(sheet, out)
 }

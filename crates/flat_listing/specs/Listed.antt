@@ -5,7 +5,7 @@ use Rattle.std.proofs.Common.{arith, le-ltb}
 use Rattle.refusals.specs.Numbers.{number_of}
 use Rattle.refusals.specs.declared.Refusal.{Refusal}
 use Rattle.listing.specs.Listing.{text_of, listed_of}
-use Rattle.listing.proofs.Size.{text_short}
+use Rattle.listing.specs.Short.{text_short}
 use Rattle.flat_listing.specs.declared.FlatListed.{FlatListed}
 
 abbrev pub flat_listed : Result ℕ Refusal → FlatListed

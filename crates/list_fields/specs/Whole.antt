@@ -3,7 +3,7 @@
 use Rattle.std.specs.Prelude.{◌≡◌, List, ℕ, ◌≤◌, length}
 use Rattle.std.proofs.Common.{arith}
 use Rattle.field_lines.specs.FieldLines.{text_of}
-use Rattle.field_lines.proofs.Size.{text_short}
+use Rattle.field_lines.specs.Short.{text_short}
 
 pub fits : (s out : List ℕ) → 196608 ≡ length out → length (text_of s) ≤ length out
 fits s out room = omega (arith, room, text_short s)

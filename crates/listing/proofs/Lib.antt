@@ -1,2 +1,1 @@
 pub mod LoopLemmas
-pub mod Size

@@ -1,11 +1,12 @@
 // The listing of a sheet, as text in a buffer.
 #![tactic(auto)]
 
-ghost use Rattle.std.specs.Prelude.{◌≡◌, ◌+◌, ◌≤◌, length};
+ghost use Rattle.std.specs.Prelude.{◌≡◌, List, ℕ, ◌+◌, ◌≤◌, length};
 ghost use Rattle.text.specs.Writing.{Writes};
 ghost use Rattle.listing.specs.Listing.{previous, text_of, listed_of, buffer_of};
-ghost use Rattle.listing.specs.Puts.{Puts};
+ghost use Rattle.listing.specs.Size.{longest};
 ghost use Rattle.listing.specs.Turn.{Countable, Lists, ListsField, passed_by};
+ghost use Rattle.listing.specs.Short.{text_short};
 
 use fields::FieldKind;
 use refusals::Refusal;
@@ -139,32 +140,57 @@ fn put_listing(out: &mut [u8], sheet: &[u8]) -> usize
     }
 }
 
-// Puts a text of at most `limit` bytes into a buffer with room for all of it. Where some such text is longer than the buffer, it is measured before: it is put, and one byte of it stored.
-pub fn put_whole<F: Fn(&mut [u8]) -> usize>(
-    limit: usize,
-    put: F,
-    out: &mut [u8],
-) -> Result<usize, Refusal>
-    requires { F.IsAlwaysCallable put }
-    ensures answer { (text : _) → Puts F.Fn put text → length text ≤ limit → result ≡ listed_of text out.old }
-    ensures content { (text : _) → Puts F.Fn put text → length text ≤ limit → out.new ≡ buffer_of text out.old }
+// A text of a sheet that is put into buffers: a function of the sheet's bytes, with a bound on its length.
+pub trait SheetText {
+    ghost text_of: { List ℕ → List ℕ };
+
+    ghost LIMIT: { ℕ };
+
+    const LIMIT: usize;
+
+    // Puts the text from the buffer's start, as far as it fits, and gives its length.
+    fn put(out: &mut [u8], sheet: &[u8]) -> usize
+        ensures { Writes out.old 0 (text_of sheet.now) out.new result };
+
+    // No sheet's text has more bytes.
+    ghost within_limit: { (s : List ℕ) → length (text_of s) ≤ LIMIT };
+}
+
+// Puts a sheet's text into a buffer that has room for all of it. Where the buffer is shorter than some sheet's text, the text is measured before: it is put, and one byte of it stored.
+pub fn put_whole<T: SheetText>(sheet: &[u8], out: &mut [u8]) -> Result<usize, Refusal>
+    ensures answer { result ≡ listed_of (T.text_of sheet.now) out.old }
+    ensures content { out.new ≡ buffer_of (T.text_of sheet.now) out.old }
 {
-    if out.len() < limit {
+    if out.len() < T::LIMIT {
         let mut first = [0u8; 1];
-        if out.len() < put(&mut first) {
+        if out.len() < T::put(&mut first, sheet) {
             return Err(Refusal::Room);
         }
     }
-    Ok(put(out))
+    Ok(T::put(out, sheet))
 }
 
-// No sheet's listing has more bytes.
-const TEXT_LIMIT: usize = 117085;
+// The listing.
+struct Listing;
+
+impl SheetText for Listing {
+    ghost text_of = { text_of };
+
+    ghost LIMIT = { longest };
+
+    const LIMIT: usize = 117085;
+
+    fn put(out: &mut [u8], sheet: &[u8]) -> usize {
+        put_listing(out, sheet)
+    }
+
+    ghost within_limit = { text_short };
+}
 
 // Writes the listing of a sheet into a buffer.
 pub fn list_sheet(sheet: &[u8], out: &mut [u8]) -> Result<usize, Refusal>
     ensures answer { result ≡ listed_of (text_of sheet.now) out.old }
     ensures content { out.new ≡ buffer_of (text_of sheet.now) out.old }
 {
-    put_whole(TEXT_LIMIT, |buffer| put_listing(buffer, sheet), out)
+    put_whole::<Listing>(sheet, out)
 }
