@@ -38,8 +38,9 @@ fn check_field(
             let from = at + 3;
             let next = from + length;
             match kind {
-                FieldKind::Word => Ok(Some(next)),
-                FieldKind::Figure => Ok(Some(next)),
+                // told by the kind alone: where the next field is does not wait for this one's length
+                FieldKind::Word => Ok(Some(at + 7)),
+                FieldKind::Figure => Ok(Some(at + 12)),
                 FieldKind::Note => Ok(Some(next)),
                 FieldKind::Group => {
                     after_inside(check_run(&run[from..next], place + 3, depths - 1), next)
@@ -56,10 +57,19 @@ fn check_run(run: &[u8], offset: usize, depths: u8) -> Result<(), (Refusal, usiz
     ensures { result ≡ checked_of (run_of (4 - depths) offset run.now) }
 {
     let mut at: usize = 0;
-    while let Some(next) = check_field(run, at, offset, depths)? {
-        at = next;
+    loop {
+        match check_field(run, at, offset, depths) {
+            Ok(Some(next)) => {
+                at = next;
+            }
+            Ok(None) => {
+                return Ok(());
+            }
+            Err(refused) => {
+                return Err(refused);
+            }
+        }
     }
-    Ok(())
 }
 
 // Whether a sheet is legal, else its refusal: 15 first, then the first from the left.

@@ -1,7 +1,6 @@
 -- Each step of the check is one law of specs/StepsLemmas.antt.
 use Rattle.std.specs.Prelude.{Result, ℕ, Some, None, Ok, Err}
 use Rattle.std.proofs.Common.{◌≡◌, sym, ap, ◌∙◌, suc, ◌+◌, ◌-◌, ◌<◌, arith}
-use Rattle.std.proofs.lemmas.Result.{err_from_is_err_and}
 use Rattle.refusals.specs.declared.Refusal.{Refusal}
 use Rattle.sheet.specs.Checked.{after_inside}
 use Rattle.sheet.specs.StepsLemmas.{next-inside, turn, stands_at, group_depth, group_field}
@@ -30,20 +29,18 @@ check_field-returns-in-Group t c =
     ∙ ap (λ (i : Result Unit (Refusal × ℕ)). after_inside i (c.args.at + 3 + n)) c.check_run.ensures
     ∙ group_field (4 - c.args.depths) c.args.at n c.args.run.now (sym c.in-Ok-Some.ensures ∙ ap Ok c.in-Ok-Some.field-0-is) c.in-Group.is c.args.offset (4 - (c.args.depths - 1)) deeper
 
-pub check_run-returns-in_err-next : goal.check_run-returns-in_err-next
-check_run-returns-in_err-next t c =
-    let p = err_from_is_err_and c.from_residual.result c.from_residual.ensures.1 in
-    rw (p.1, p.2)
-    (turn (4 - c.args.depths) c.args.offset c.loop-next.at c.args.run.now _ (Err c.in_err-next.field-0.0) c.loop-next.invariant.same (sym c.check_field.ensures ∙ c.in_err-next.was))
+pub check_run-returns-in-Err : goal.check_run-returns-in-Err
+check_run-returns-in-Err t c =
+    turn (4 - c.args.depths) c.args.offset c.loop-next.at c.args.run.now _ (Err c.in-Err.refused) c.loop-next.invariant.same (sym c.in-Err.ensures)
 
-pub check_run-returns : goal.check_run-returns
-check_run-returns t c =
-    turn (4 - c.args.depths) c.args.offset c.loop-next.at c.args.run.now _ (Ok None) c.loop-next.invariant.same (sym c.check_field.ensures ∙ c.in_ok-next.was ∙ ap Ok c.in_default.is)
+pub check_run-returns-in-Ok-None : goal.check_run-returns-in-Ok-None
+check_run-returns-in-Ok-None t c =
+    turn (4 - c.args.depths) c.args.offset c.loop-next.at c.args.run.now _ (Ok None) c.loop-next.invariant.same (sym c.in-Ok-None.ensures ∙ ap Ok c.in-Ok-None.field-0-is)
 
 pub check_run-loop-next-preserved : goal.check_run-loop-next-preserved
 check_run-loop-next-preserved t c =
-    let found = sym c.check_field.ensures ∙ c.in_ok-next.was ∙ ap Ok c.in-Some.is in
+    let found = sym c.in-Ok-Some.ensures ∙ ap Ok c.in-Ok-Some.field-0-is in
     record {
-      inside = (next-inside (4 - c.args.depths) c.args.offset c.loop-next.at c.args.run.now c.in-Some.next found).1;
-      same = turn (4 - c.args.depths) c.args.offset c.loop-next.at c.args.run.now _ (Ok (Some c.in-Some.next)) c.loop-next.invariant.same found;
+      inside = (next-inside (4 - c.args.depths) c.args.offset c.loop-next.at c.args.run.now c.in-Ok-Some.next found).1;
+      same = turn (4 - c.args.depths) c.args.offset c.loop-next.at c.args.run.now _ (Ok (Some c.in-Ok-Some.next)) c.loop-next.invariant.same found;
     }
