@@ -4,6 +4,12 @@ use Rattle.fields.specs.declared.FieldKind.{FieldKind}
 use Rattle.fields.specs.Start.{start_of}
 use Rattle.fields.specs.Run.{Scan, Fields, Refused, inside, run_of}
 use Rattle.refusals.specs.declared.Refusal.{Refusal}
+use Rattle.sheet.specs.declared.Checked.{Checked}
+
+-- what the check of a run says, as callers have it
+abbrev pub answer_of : Checked → Result Unit (Refusal × ℕ)
+answer_of Checked.Legal = Ok tt
+answer_of (Checked.Refused f p) = Err (f, p)
 
 -- a run with fields is legal
 abbrev pub checked_of : Scan → Result Unit (Refusal × ℕ)

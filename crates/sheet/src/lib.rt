@@ -3,19 +3,34 @@
 
 ghost use Rattle.std.specs.Prelude.{◌≡◌, ◌+◌, ◌-◌, ◌≤◌, ◌<◌, length};
 ghost use Rattle.fields.specs.Run.{run_of, sheet_of, inside_of};
-ghost use Rattle.sheet.specs.Checked.{checked_of, after_inside, field_of};
+ghost use Rattle.sheet.specs.Checked.{answer_of, checked_of, after_inside, field_of};
 
 use fields::FieldKind;
 use refusals::Refusal;
 
-// A field goes on past its content once its inside is legal.
-fn after_inside(
-    inside: Result<(), (Refusal, usize)>,
-    next: usize,
-) -> Result<Option<usize>, (Refusal, usize)>
-    ensures { result ≡ after_inside inside next }
+// What the check of a run says, within this crate. Every turn of the check clears the memory of a group's answer: 16 bytes, where the `Result` of `answer_of` has 24.
+enum Checked {
+    // Every field may stand where it stands.
+    Legal,
+    // The first refusal, and the offset of the tag of the field that it refuses.
+    Refused(Refusal, usize),
+}
+
+// The same as callers have it.
+fn answer_of(checked: Checked) -> Result<(), (Refusal, usize)>
+    ensures { result ≡ answer_of checked }
 {
-    inside?;
+    match checked {
+        Checked::Legal => Ok(()),
+        Checked::Refused(refusal, place) => Err((refusal, place)),
+    }
+}
+
+// A field goes on past its content once its inside is legal.
+fn after_inside(inside: Checked, next: usize) -> Result<Option<usize>, (Refusal, usize)>
+    ensures { result ≡ after_inside (answer_of inside) next }
+{
+    answer_of(inside)?;
     Ok(Some(next))
 }
 
@@ -52,9 +67,9 @@ fn check_field(
 
 // The check of a run of fields whose first byte has this offset, with so many depths left below its own.
 #[cycle(check_field_check_run)]
-fn check_run(run: &[u8], offset: usize, depths: u8) -> Result<(), (Refusal, usize)>
+fn check_run(run: &[u8], offset: usize, depths: u8) -> Checked
     requires { (depths ≤ 3) × (offset + length run.now < 0x10000000000000000) }
-    ensures { result ≡ checked_of (run_of (4 - depths) offset run.now) }
+    ensures { answer_of result ≡ checked_of (run_of (4 - depths) offset run.now) }
 {
     let mut at: usize = 0;
     loop {
@@ -63,10 +78,10 @@ fn check_run(run: &[u8], offset: usize, depths: u8) -> Result<(), (Refusal, usiz
                 at = next;
             }
             Ok(None) => {
-                return Ok(());
+                return Checked::Legal;
             }
-            Err(refused) => {
-                return Err(refused);
+            Err((refusal, place)) => {
+                return Checked::Refused(refusal, place);
             }
         }
     }
@@ -79,14 +94,14 @@ pub fn check_sheet(sheet: &[u8]) -> Result<(), (Refusal, usize)>
     if 32768 < sheet.len() {
         return Err((Refusal::Oversize, 0));
     }
-    check_run(sheet, 0, 3)
+    answer_of(check_run(sheet, 0, 3))
 }
 
 // Whether a run of bytes may be the inside of a top group, else its first refusal, with the offset in the run.
 pub fn check_inside(run: &[u8]) -> Result<(), (Refusal, usize)>
     ensures { result ≡ checked_of (inside_of run.now) }
 {
-    check_run(run, 0, 2)
+    answer_of(check_run(run, 0, 2))
 }
 
 // The check of the top field, with its inside, that begins at a place of a sheet.

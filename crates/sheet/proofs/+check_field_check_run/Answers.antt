@@ -31,7 +31,7 @@ check_field-returns-in-Group t c =
 
 pub check_run-returns-in-Err : goal.check_run-returns-in-Err
 check_run-returns-in-Err t c =
-    turn (4 - c.args.depths) c.args.offset c.loop-next.at c.args.run.now _ (Err c.in-Err.refused) c.loop-next.invariant.same (sym c.in-Err.ensures)
+    turn (4 - c.args.depths) c.args.offset c.loop-next.at c.args.run.now _ (Err (c.in-Err.refusal, c.in-Err.place)) c.loop-next.invariant.same (sym c.in-Err.ensures)
 
 pub check_run-returns-in-Ok-None : goal.check_run-returns-in-Ok-None
 check_run-returns-in-Ok-None t c =
