@@ -137,9 +137,10 @@ pub fn step(sheet: &[u8], walk: Result<Position, (Refusal, usize)>) -> WalkStep
 {
     match walk {
         Ok(position) => step_at(sheet, position, level_of(position, sheet.len())),
-        Err((refusal, offset)) => WalkStep {
-            given: Err((refusal, offset)),
-            next: Err((refusal, offset)),
+        // whole, since the compiler reads a walk's place in four pieces where this pair is taken apart
+        Err(refused) => WalkStep {
+            given: Err(refused),
+            next: Err(refused),
         },
     }
 }
