@@ -91,5 +91,5 @@ pub fn list_fields(sheet: &[u8], out: &mut [u8]) -> Result<usize, Refusal>
     ensures answer { result ≡ listed_of (text_of sheet.now) out.old }
     ensures content { out.new ≡ buffer_of (text_of sheet.now) out.old }
 {
-    listing::put_whole::<FieldLines>(sheet, out)
+    listing::put_sheet_text::<FieldLines>(sheet, out)
 }

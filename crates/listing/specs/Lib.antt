@@ -1,5 +1,6 @@
 -- The listing of a sheet. Assumes nothing.
 pub mod Listing
+pub mod Puts
 pub mod Size
 pub mod Short
 pub mod Turn

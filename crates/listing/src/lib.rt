@@ -4,6 +4,7 @@
 ghost use Rattle.std.specs.Prelude.{◌≡◌, List, ℕ, ◌+◌, ◌≤◌, length};
 ghost use Rattle.text.specs.Writing.{Writes};
 ghost use Rattle.listing.specs.Listing.{previous, text_of, listed_of, buffer_of};
+ghost use Rattle.listing.specs.Puts.{Puts};
 ghost use Rattle.listing.specs.Size.{longest};
 ghost use Rattle.listing.specs.Turn.{Countable, Lists, ListsField, passed_by};
 ghost use Rattle.listing.specs.Short.{text_short};
@@ -157,7 +158,7 @@ pub trait SheetText {
 }
 
 // Puts a sheet's text into a buffer that has room for all of it. Where the buffer is shorter than some sheet's text, the text is measured before: it is put, and one byte of it stored.
-pub fn put_whole<T: SheetText>(sheet: &[u8], out: &mut [u8]) -> Result<usize, Refusal>
+pub fn put_sheet_text<T: SheetText>(sheet: &[u8], out: &mut [u8]) -> Result<usize, Refusal>
     ensures answer { result ≡ listed_of (T.text_of sheet.now) out.old }
     ensures content { out.new ≡ buffer_of (T.text_of sheet.now) out.old }
 {
@@ -168,6 +169,25 @@ pub fn put_whole<T: SheetText>(sheet: &[u8], out: &mut [u8]) -> Result<usize, Re
         }
     }
     Ok(T::put(out, sheet))
+}
+
+// Puts a text of at most `limit` bytes into a buffer with room for all of it. Where some such text is longer than the buffer, it is measured before: it is put, and one byte of it stored. What puts it is a closure, and has to be callable; a text of a sheet goes through `put_sheet_text`, which asks nothing.
+pub fn put_whole<F: Fn(&mut [u8]) -> usize>(
+    limit: usize,
+    put: F,
+    out: &mut [u8],
+) -> Result<usize, Refusal>
+    requires { F.IsAlwaysCallable put }
+    ensures answer { (text : _) → Puts F.Fn put text → length text ≤ limit → result ≡ listed_of text out.old }
+    ensures content { (text : _) → Puts F.Fn put text → length text ≤ limit → out.new ≡ buffer_of text out.old }
+{
+    if out.len() < limit {
+        let mut first = [0u8; 1];
+        if out.len() < put(&mut first) {
+            return Err(Refusal::Room);
+        }
+    }
+    Ok(put(out))
 }
 
 // The listing.
@@ -192,5 +212,30 @@ pub fn list_sheet(sheet: &[u8], out: &mut [u8]) -> Result<usize, Refusal>
     ensures answer { result ≡ listed_of (text_of sheet.now) out.old }
     ensures content { out.new ≡ buffer_of (text_of sheet.now) out.old }
 {
-    put_whole::<Listing>(sheet, out)
+    put_sheet_text::<Listing>(sheet, out)
+}
+
+#[cfg(test)]
+mod tests {
+    use super::*;
+
+    // A total line of 22 bytes, put by a closure that holds its numbers. No such line has more than 56.
+    #[test]
+    fn a_closure_puts_its_text_where_all_of_it_fits(rt: HostRuntime) {
+        let words = 4681;
+        let refused = 12;
+        for room in [0, 1, 21, 22, 23, 55, 56, 57] {
+            let mut out = [b'.'; 57];
+            let put = |buffer: &mut [u8]| lines::put_total_line(buffer, 0, words, refused);
+            let answer = put_whole(56, put, &mut out[..room]);
+            if room < 22 {
+                assert_eq!(rt; answer, Err(Refusal::Room), "room {room}");
+                assert_eq!(rt; out, [b'.'; 57], "room {room}");
+            } else {
+                let whole = *b"words 4681 refused 12\n...................................";
+                assert_eq!(rt; answer, Ok(22), "room {room}");
+                assert_eq!(rt; out, whole, "room {room}");
+            }
+        }
+    }
 }

@@ -4,6 +4,5 @@ use Rattle.listing.specs.BufferLemmas.{stored}
 use Rattle.listing.proofs.put_whole.Goals as goal
 
 pub returns-clause-content : goal.returns-clause-content
-returns-clause-content g c =
-    let short = g.met.T.SheetText.within_limit c.args.sheet.now in
-    (stored (g.T.SheetText.text_of c.args.sheet.now) _ _ _ (search rules) c.put-2.ensures (search rules)).1
+returns-clause-content g c text puts short =
+    (stored text _ _ _ (search rules) (puts _ _ _ c.put-2.ensures) (search rules)).1
